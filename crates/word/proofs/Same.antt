@@ -1,0 +1,68 @@
+-- When two words are the same, and words from bytes and back.
+use mathlib.Core.Path.{_≡_, refl, sym, ap, _∙_}
+use mathlib.Core.Bool.{true}
+use mathlib.Core.HLevel.{isProp→PathP}
+use mathlib.Core.List.{List, [], _∷_}
+use Prim.Native.Nat.{ℕ, suc, _/_, _%_, _^_, _<_}
+use native.Mathlib.Bridge.{le-prop}
+use native.Mathlib.Nat.{mod-eq-of-lt, div-one}
+use native.Mathlib.Omega.{arith}
+use lib.ListN.{length}
+use Rattle.word.specs.declared.word.Word.{Word}
+use Rattle.word.specs.declared.sign.Sign.{Sign}
+use Rattle.word.specs.Bytes.{packed, unpacked, areBytes}
+use Rattle.word.specs.Word.{wordOf, wordFrom, fiveBytes, bytesOf}
+use Rattle.word.proofs.Bytes.{length-unpacked, bytes-unpacked, packed-unpacked, unpacked-packed}
+
+-- a word is its sign and its magnitude
+pub word-same : (a b : Word) → a .sign ≡ b .sign → a .magnitude ≡ b .magnitude → a ≡ b
+word-same a b e f = λ i. record { sign = e i; magnitude = f i; small = isProp→PathP (λ j. f j < 2 ^ 30) (λ j. le-prop {n = suc (f j)} {m = 2 ^ 30}) (a .small) (b .small) i }
+
+pub wordOf-sign : (s : Sign) (m : ℕ) → wordOf s m .sign ≡ s
+unfolding wordOf
+wordOf-sign s m = refl
+
+pub wordOf-magnitude : (s : Sign) (m : ℕ) → wordOf s m .magnitude ≡ m % 2 ^ 30
+unfolding wordOf
+wordOf-magnitude s m = refl
+
+pub wordOf-same : (w : Word) → wordOf (w .sign) (w .magnitude) ≡ w
+wordOf-same w = word-same (wordOf (w .sign) (w .magnitude)) w (wordOf-sign (w .sign) (w .magnitude)) (wordOf-magnitude (w .sign) (w .magnitude) ∙ mod-eq-of-lt (w .small))
+
+-- bytes above the fifth do not count
+pub five-rest : (m : ℕ) → fiveBytes (m % 2 ^ 30) ≡ fiveBytes m
+unfolding fiveBytes
+five-rest m =
+    ap (unpacked 5) (sym (packed-unpacked 5 m))
+    ∙ ap (λ (n : ℕ). unpacked n (packed (unpacked 5 m))) (sym (length-unpacked 5 m))
+    ∙ unpacked-packed (unpacked 5 m) (bytes-unpacked 5 m)
+
+pub length-five : (m : ℕ) → length (fiveBytes m) ≡ 5
+unfolding fiveBytes
+length-five m = length-unpacked 5 m
+
+pub bytes-five : (m : ℕ) → areBytes (fiveBytes m) ≡ true
+unfolding fiveBytes
+bytes-five m = bytes-unpacked 5 m
+
+pub packed-five : (m : ℕ) → packed (fiveBytes m) ≡ m % 2 ^ 30
+unfolding fiveBytes
+packed-five m = packed-unpacked 5 m
+
+-- the five bytes of a number, written out
+pub five-written : (m : ℕ) → (m / 16777216 % 64) ∷ (m / 262144 % 64) ∷ (m / 4096 % 64) ∷ (m / 64 % 64) ∷ (m % 64) ∷ [] ≡ fiveBytes m
+unfolding fiveBytes
+five-written m = ap (λ (d : ℕ). (m / 16777216 % 64) ∷ (m / 262144 % 64) ∷ (m / 4096 % 64) ∷ (m / 64 % 64) ∷ (d % 64) ∷ []) (sym (div-one m))
+
+-- five bytes to a number and back
+pub five-packed : (bs : List ℕ) → length bs ≡ 5 → areBytes bs ≡ true → fiveBytes (packed bs) ≡ bs
+unfolding fiveBytes
+five-packed bs n p = ap (λ (k : ℕ). unpacked k (packed bs)) (sym n) ∙ unpacked-packed bs p
+
+-- a word to its bytes and back
+pub from-bytes-of : (w : Word) → wordFrom (w .sign) (bytesOf w) ≡ w
+from-bytes-of w = ap (wordOf (w .sign)) (packed-five (w .magnitude) ∙ mod-eq-of-lt (w .small)) ∙ wordOf-same w
+
+-- bytes to a word and back
+pub bytes-of-from : (s : Sign) (bs : List ℕ) → length bs ≡ 5 → areBytes bs ≡ true → bytesOf (wordFrom s bs) ≡ bs
+bytes-of-from s bs n p = ap fiveBytes (wordOf-magnitude s (packed bs)) ∙ five-rest (packed bs) ∙ five-packed bs n p
