@@ -17,12 +17,14 @@ pub pow-pos : (n : ℕ) → 0 < 64 ^ n
 pow-pos n = one-le-pow n 64 (omega arith)
 
 pub length-unpacked : (n m : ℕ) → length (unpacked n m) ≡ n
+unfolding unpacked
 length-unpacked zero m = refl
 length-unpacked (suc n) m = ap suc (length-unpacked n m)
 
 -- which lists are bytes
 
 pub bytes-unpacked : (n m : ℕ) → areBytes (unpacked n m) ≡ true
+unfolding unpacked
 bytes-unpacked zero m = refl
 bytes-unpacked (suc n) m =
     and-from (ltb (m / 64 ^ n % 64) 64) (areBytes (unpacked n m)) (lt-ltb (m / 64 ^ n % 64) 64 (mod-below (m / 64 ^ n) 64 (omega arith))) (bytes-unpacked n m)
@@ -90,6 +92,7 @@ packed-drop n xs p =
 -- to bytes and back, both ways
 
 pub packed-unpacked : (n m : ℕ) → packed (unpacked n m) ≡ m % 64 ^ n
+unfolding unpacked
 packed-unpacked zero m = sym (mod-one m)
 packed-unpacked (suc n) m =
     ap (λ (k : ℕ). (m / 64 ^ n % 64) * 64 ^ k + packed (unpacked n m)) (length-unpacked n m)
@@ -105,6 +108,7 @@ above q b k p =
     omega arith
 
 under : (q : ℕ) (bs : List ℕ) → areBytes bs ≡ true → unpacked (length bs) (q * 64 ^ length bs + packed bs) ≡ bs
+unfolding unpacked
 under q [] p = refl
 under q (b ∷ bs) p =
     ap (unpacked (suc (length bs))) (above q b (length bs) (packed bs))

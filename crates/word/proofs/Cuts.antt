@@ -8,9 +8,8 @@ use native.Mathlib.Omega.{arith}
 use lib.ListN.{length, take, drop, replicate, length-append, length-take, length-drop, length-replicate}
 use Rattle.std.proofs.shelf.Lists.{take-at, drop-at, append-assoc, length-take-le}
 use Rattle.word.specs.declared.field.Field.{Field}
-use Rattle.word.specs.Bytes.{packed, areBytes}
+use Rattle.word.specs.Bytes.{packed, unpacked, areBytes}
 use Rattle.word.specs.Field.{before, width, inside, rightEnd, readBytes, storedBytes, Stored}
-use Rattle.word.specs.Word.{fiveBytes}
 use Rattle.word.proofs.Bytes.{bytes-append, bytes-take, bytes-drop, bytes-zeros, packed-zeros, packed-append, packed-take, packed-drop, packed-lt}
 use Rattle.word.proofs.Same.{length-five, bytes-five, packed-five, five-packed}
 
@@ -22,43 +21,43 @@ pub record Lies (f : Field) : Type 0 where
 pub lies : (f : Field) → Lies f
 lies f = let o = f .ordered in let w = f .within in record { behind = omega arith; short = omega arith }
 
-small-five : (m : ℕ) → m < 2 ^ 30 → packed (fiveBytes m) ≡ m
+small-five : (m : ℕ) → m < 2 ^ 30 → packed (unpacked 5 m) ≡ m
 small-five m h = packed-five m ∙ mod-eq-of-lt h
 
 -- a field that is read
 
 module _ (f : Field) (m : ℕ) where
   front : List ℕ
-  front = take (f .right) (fiveBytes m)
+  front = take (f .right) (unpacked 5 m)
 
   front-length : length front ≡ f .right
   unfolding front
-  front-length = length-take-le (f .right) (fiveBytes m) (omega (arith, length-five m, f .within))
+  front-length = length-take-le (f .right) (unpacked 5 m) (omega (arith, length-five m, f .within))
 
   front-bytes : areBytes front ≡ true
   unfolding front
-  front-bytes = bytes-take (f .right) (fiveBytes m) (bytes-five m)
+  front-bytes = bytes-take (f .right) (unpacked 5 m) (bytes-five m)
 
-  pub read-length : length (readBytes f (fiveBytes m)) ≡ 5
+  pub read-length : length (readBytes f (unpacked 5 m)) ≡ 5
   unfolding readBytes inside front
   read-length = let l = lies f in let e = front-length in simp (length-append, length-replicate, length-drop) (omega arith)
 
-  pub read-bytes : areBytes (readBytes f (fiveBytes m)) ≡ true
+  pub read-bytes : areBytes (readBytes f (unpacked 5 m)) ≡ true
   unfolding readBytes inside front
   read-bytes = bytes-append (replicate (5 - width f) 0) (drop (before f) front) (bytes-zeros (5 - width f)) (bytes-drop (before f) front front-bytes)
 
-  pub read-value : m < 2 ^ 30 → packed (readBytes f (fiveBytes m)) ≡ m / 64 ^ (5 - f .right) % 64 ^ width f
+  pub read-value : m < 2 ^ 30 → packed (readBytes f (unpacked 5 m)) ≡ m / 64 ^ (5 - f .right) % 64 ^ width f
   unfolding readBytes inside front
   read-value h =
       packed-zeros (5 - width f) (drop (before f) front)
       ∙ packed-drop (before f) front front-bytes
       ∙ ap (λ (k : ℕ). packed front % 64 ^ (k - before f)) front-length
-      ∙ ap (λ (n : ℕ). n % 64 ^ width f) (packed-take (f .right) (fiveBytes m) (bytes-five m))
-      ∙ ap (λ (k : ℕ). packed (fiveBytes m) / 64 ^ (k - f .right) % 64 ^ width f) (length-five m)
+      ∙ ap (λ (n : ℕ). n % 64 ^ width f) (packed-take (f .right) (unpacked 5 m) (bytes-five m))
+      ∙ ap (λ (k : ℕ). packed (unpacked 5 m) / 64 ^ (k - f .right) % 64 ^ width f) (length-five m)
       ∙ ap (λ (n : ℕ). n / 64 ^ (5 - f .right) % 64 ^ width f) (small-five m h)
 
   -- the same with the numbers that the code has in hand
-  pub read-worked : (n p q : ℕ) → n ≡ m → p ≡ 64 ^ (5 - f .right) → q ≡ 64 ^ width f → m < 2 ^ 30 → n / p % q ≡ packed (readBytes f (fiveBytes m))
+  pub read-worked : (n p q : ℕ) → n ≡ m → p ≡ 64 ^ (5 - f .right) → q ≡ 64 ^ width f → m < 2 ^ 30 → n / p % q ≡ packed (readBytes f (unpacked 5 m))
   read-worked n p q e g h small =
       ap (λ (k : ℕ). k / p % q) e ∙ ap (λ (k : ℕ). m / k % q) g ∙ ap (λ (k : ℕ). m / 64 ^ (5 - f .right) % k) h ∙ sym (read-value small)
 
@@ -66,17 +65,17 @@ module _ (f : Field) (m : ℕ) where
 
 module _ (f : Field) (v m : ℕ) where
   left : List ℕ
-  left = take (before f) (fiveBytes m)
+  left = take (before f) (unpacked 5 m)
 
   middle : List ℕ
-  middle = rightEnd f (fiveBytes v)
+  middle = rightEnd f (unpacked 5 v)
 
   end : List ℕ
-  end = drop (f .right) (fiveBytes m)
+  end = drop (f .right) (unpacked 5 m)
 
   left-length : length left ≡ before f
   unfolding left
-  left-length = length-take-le (before f) (fiveBytes m) (let l = lies f in omega (arith, length-five m))
+  left-length = length-take-le (before f) (unpacked 5 m) (let l = lies f in omega (arith, length-five m))
 
   middle-length : length middle ≡ width f
   unfolding middle rightEnd
@@ -92,17 +91,17 @@ module _ (f : Field) (v m : ℕ) where
   after-length : length (middle ++ end) ≡ 5 - before f
   after-length = let l = lies f in let a = middle-length in let b = end-length in simp length-append (omega arith)
 
-  pub stored-length : length (storedBytes f (fiveBytes v) (fiveBytes m)) ≡ 5
+  pub stored-length : length (storedBytes f (unpacked 5 v) (unpacked 5 m)) ≡ 5
   unfolding storedBytes left middle end
   stored-length = let l = lies f in let a = left-length in let b = after-length in ap (λ (n : ℕ). n) (length-append left (middle ++ end)) ∙ omega arith
 
-  pub stored-bytes : areBytes (storedBytes f (fiveBytes v) (fiveBytes m)) ≡ true
+  pub stored-bytes : areBytes (storedBytes f (unpacked 5 v) (unpacked 5 m)) ≡ true
   unfolding storedBytes left middle end rightEnd
   stored-bytes =
-      bytes-append left (middle ++ end) (bytes-take (before f) (fiveBytes m) (bytes-five m))
-      (bytes-append middle end (bytes-drop (5 - width f) (fiveBytes v) (bytes-five v)) (bytes-drop (f .right) (fiveBytes m) (bytes-five m)))
+      bytes-append left (middle ++ end) (bytes-take (before f) (unpacked 5 m) (bytes-five m))
+      (bytes-append middle end (bytes-drop (5 - width f) (unpacked 5 v) (bytes-five v)) (bytes-drop (f .right) (unpacked 5 m) (bytes-five m)))
 
-  pub stored-law : Stored f (fiveBytes v) (fiveBytes m) (storedBytes f (fiveBytes v) (fiveBytes m))
+  pub stored-law : Stored f (unpacked 5 v) (unpacked 5 m) (storedBytes f (unpacked 5 v) (unpacked 5 m))
   unfolding storedBytes inside left middle end
   stored-law =
       record {
@@ -114,7 +113,7 @@ module _ (f : Field) (v m : ℕ) where
         right = ap (drop (f .right)) (sym (append-assoc left middle end)) ∙ drop-at (left ++ middle) end (f .right) up-to-length;
       }
 
-  pub stored-value : v < 2 ^ 30 → m < 2 ^ 30 → packed (storedBytes f (fiveBytes v) (fiveBytes m)) ≡ m / 64 ^ (5 - before f) * 64 ^ (5 - before f) + v % 64 ^ width f * 64 ^ (5 - f .right) + m % 64 ^ (5 - f .right)
+  pub stored-value : v < 2 ^ 30 → m < 2 ^ 30 → packed (storedBytes f (unpacked 5 v) (unpacked 5 m)) ≡ m / 64 ^ (5 - before f) * 64 ^ (5 - before f) + v % 64 ^ width f * 64 ^ (5 - f .right) + m % 64 ^ (5 - f .right)
   unfolding storedBytes left middle end rightEnd
   stored-value p q =
       packed-append left (middle ++ end)
@@ -124,30 +123,30 @@ module _ (f : Field) (v m : ℕ) where
     where
       at-left : packed left ≡ m / 64 ^ (5 - before f)
       at-left =
-          packed-take (before f) (fiveBytes m) (bytes-five m)
-          ∙ ap (λ (k : ℕ). packed (fiveBytes m) / 64 ^ (k - before f)) (length-five m)
+          packed-take (before f) (unpacked 5 m) (bytes-five m)
+          ∙ ap (λ (k : ℕ). packed (unpacked 5 m) / 64 ^ (k - before f)) (length-five m)
           ∙ ap (λ (n : ℕ). n / 64 ^ (5 - before f)) (small-five m q)
       at-end : packed end ≡ m % 64 ^ (5 - f .right)
       at-end =
-          packed-drop (f .right) (fiveBytes m) (bytes-five m)
-          ∙ ap (λ (k : ℕ). packed (fiveBytes m) % 64 ^ (k - f .right)) (length-five m)
+          packed-drop (f .right) (unpacked 5 m) (bytes-five m)
+          ∙ ap (λ (k : ℕ). packed (unpacked 5 m) % 64 ^ (k - f .right)) (length-five m)
           ∙ ap (λ (n : ℕ). n % 64 ^ (5 - f .right)) (small-five m q)
       at-middle : packed middle ≡ v % 64 ^ width f
       at-middle =
-          packed-drop (5 - width f) (fiveBytes v) (bytes-five v)
-          ∙ ap (λ (k : ℕ). packed (fiveBytes v) % 64 ^ k) (let l = lies f in let e = length-five v in omega arith)
+          packed-drop (5 - width f) (unpacked 5 v) (bytes-five v)
+          ∙ ap (λ (k : ℕ). packed (unpacked 5 v) % 64 ^ k) (let l = lies f in let e = length-five v in omega arith)
           ∙ ap (λ (n : ℕ). n % 64 ^ width f) (small-five v p)
       parts : packed left * 64 ^ (5 - before f) + (packed middle * 64 ^ (5 - f .right) + packed end) ≡ m / 64 ^ (5 - before f) * 64 ^ (5 - before f) + v % 64 ^ width f * 64 ^ (5 - f .right) + m % 64 ^ (5 - f .right)
       parts = simp (at-left, at-middle, at-end) (omega arith)
 
   pub record Spliced (u n h s l : ℕ) : Type 0 where
-    pub value : n / h * h + u % s * l + n % l ≡ packed (storedBytes f (fiveBytes v) (fiveBytes m))
+    pub value : n / h * h + u % s * l + n % l ≡ packed (storedBytes f (unpacked 5 v) (unpacked 5 m))
     pub bound : n / h * h + u % s * l + n % l < 1073741824
 
   -- the same with the numbers that the code has in hand
   pub stored-worked : (u n h s l : ℕ) → u ≡ v → n ≡ m → h ≡ 64 ^ (5 - before f) → s ≡ 64 ^ width f → l ≡ 64 ^ (5 - f .right) → v < 2 ^ 30 → m < 2 ^ 30 → Spliced u n h s l
   stored-worked u n h s l d e g i j p q =
-      let w : n / h * h + u % s * l + n % l ≡ packed (storedBytes f (fiveBytes v) (fiveBytes m)) =
+      let w : n / h * h + u % s * l + n % l ≡ packed (storedBytes f (unpacked 5 v) (unpacked 5 m)) =
             ap (λ (k : ℕ). n / h * h + k % s * l + n % l) d
             ∙ ap (λ (k : ℕ). k / h * h + v % s * l + k % l) e
             ∙ ap (λ (k : ℕ). m / k * k + v % s * l + m % l) g
@@ -155,6 +154,6 @@ module _ (f : Field) (v m : ℕ) where
             ∙ ap (λ (k : ℕ). m / 64 ^ (5 - before f) * 64 ^ (5 - before f) + v % 64 ^ width f * k + m % k) j
             ∙ sym (stored-value p q)
       in
-      let b = packed-lt (storedBytes f (fiveBytes v) (fiveBytes m)) stored-bytes in
-      let k : 64 ^ length (storedBytes f (fiveBytes v) (fiveBytes m)) ≡ 1073741824 = ap (λ (x : ℕ). 64 ^ x) stored-length in
+      let b = packed-lt (storedBytes f (unpacked 5 v) (unpacked 5 m)) stored-bytes in
+      let k : 64 ^ length (storedBytes f (unpacked 5 v) (unpacked 5 m)) ≡ 1073741824 = ap (λ (x : ℕ). 64 ^ x) stored-length in
       record { value = w; bound = omega arith }

@@ -11,7 +11,7 @@ use lib.ListN.{length}
 use Rattle.word.specs.declared.word.Word.{Word}
 use Rattle.word.specs.declared.sign.Sign.{Sign}
 use Rattle.word.specs.Bytes.{packed, unpacked, areBytes}
-use Rattle.word.specs.Word.{wordOf, wordFrom, fiveBytes, bytesOf}
+use Rattle.word.specs.Word.{wordOf, wordFrom, bytesOf}
 use Rattle.word.proofs.Bytes.{length-unpacked, bytes-unpacked, packed-unpacked, unpacked-packed}
 
 -- a word is its sign and its magnitude
@@ -30,33 +30,28 @@ pub wordOf-same : (w : Word) → wordOf (w .sign) (w .magnitude) ≡ w
 wordOf-same w = word-same (wordOf (w .sign) (w .magnitude)) w (wordOf-sign (w .sign) (w .magnitude)) (wordOf-magnitude (w .sign) (w .magnitude) ∙ mod-eq-of-lt (w .small))
 
 -- bytes above the fifth do not count
-pub five-rest : (m : ℕ) → fiveBytes (m % 2 ^ 30) ≡ fiveBytes m
-unfolding fiveBytes
+pub five-rest : (m : ℕ) → unpacked 5 (m % 2 ^ 30) ≡ unpacked 5 m
 five-rest m =
     ap (unpacked 5) (sym (packed-unpacked 5 m))
     ∙ ap (λ (n : ℕ). unpacked n (packed (unpacked 5 m))) (sym (length-unpacked 5 m))
     ∙ unpacked-packed (unpacked 5 m) (bytes-unpacked 5 m)
 
-pub length-five : (m : ℕ) → length (fiveBytes m) ≡ 5
-unfolding fiveBytes
+pub length-five : (m : ℕ) → length (unpacked 5 m) ≡ 5
 length-five m = length-unpacked 5 m
 
-pub bytes-five : (m : ℕ) → areBytes (fiveBytes m) ≡ true
-unfolding fiveBytes
+pub bytes-five : (m : ℕ) → areBytes (unpacked 5 m) ≡ true
 bytes-five m = bytes-unpacked 5 m
 
-pub packed-five : (m : ℕ) → packed (fiveBytes m) ≡ m % 2 ^ 30
-unfolding fiveBytes
+pub packed-five : (m : ℕ) → packed (unpacked 5 m) ≡ m % 2 ^ 30
 packed-five m = packed-unpacked 5 m
 
 -- the five bytes of a number, written out
-pub five-written : (m : ℕ) → (m / 16777216 % 64) ∷ (m / 262144 % 64) ∷ (m / 4096 % 64) ∷ (m / 64 % 64) ∷ (m % 64) ∷ [] ≡ fiveBytes m
-unfolding fiveBytes
+pub five-written : (m : ℕ) → (m / 16777216 % 64) ∷ (m / 262144 % 64) ∷ (m / 4096 % 64) ∷ (m / 64 % 64) ∷ (m % 64) ∷ [] ≡ unpacked 5 m
+unfolding unpacked
 five-written m = ap (λ (d : ℕ). (m / 16777216 % 64) ∷ (m / 262144 % 64) ∷ (m / 4096 % 64) ∷ (m / 64 % 64) ∷ (d % 64) ∷ []) (sym (div-one m))
 
 -- five bytes to a number and back
-pub five-packed : (bs : List ℕ) → length bs ≡ 5 → areBytes bs ≡ true → fiveBytes (packed bs) ≡ bs
-unfolding fiveBytes
+pub five-packed : (bs : List ℕ) → length bs ≡ 5 → areBytes bs ≡ true → unpacked 5 (packed bs) ≡ bs
 five-packed bs n p = ap (λ (k : ℕ). unpacked k (packed bs)) (sym n) ∙ unpacked-packed bs p
 
 -- a word to its bytes and back
@@ -65,4 +60,4 @@ from-bytes-of w = ap (wordOf (w .sign)) (packed-five (w .magnitude) ∙ mod-eq-o
 
 -- bytes to a word and back
 pub bytes-of-from : (s : Sign) (bs : List ℕ) → length bs ≡ 5 → areBytes bs ≡ true → bytesOf (wordFrom s bs) ≡ bs
-bytes-of-from s bs n p = ap fiveBytes (wordOf-magnitude s (packed bs)) ∙ five-rest (packed bs) ∙ five-packed bs n p
+bytes-of-from s bs n p = ap (unpacked 5) (wordOf-magnitude s (packed bs)) ∙ five-rest (packed bs) ∙ five-packed bs n p

@@ -11,7 +11,7 @@ packed [] = 0
 packed (b ∷ bs) = b * 64 ^ length bs + packed bs
 
 -- the lowest n bytes of a number, the highest first
-abbrev pub unpacked : ℕ → ℕ → List ℕ
+unfoldable pub unpacked : ℕ → ℕ → List ℕ
 unpacked zero m = []
 unpacked (suc n) m = (m / 64 ^ n % 64) ∷ unpacked n m
 

@@ -19,13 +19,9 @@ small-rest m = omega arith
 unfoldable pub wordOf : Sign → ℕ → Word
 wordOf s m = record { sign = s; magnitude = m % 2 ^ 30; small = small-rest m }
 
--- the five lowest bytes of a number
-unfoldable pub fiveBytes : ℕ → List ℕ
-fiveBytes m = unpacked 5 m
-
 -- a word's five bytes, byte 1 first
 abbrev pub bytesOf : Word → List ℕ
-bytesOf w = fiveBytes (w .magnitude)
+bytesOf w = unpacked 5 (w .magnitude)
 
 -- the word of a sign and five bytes
 abbrev pub wordFrom : Sign → List ℕ → Word

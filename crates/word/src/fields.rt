@@ -2,9 +2,9 @@ ghost use mathlib.Core.Path.{_≡_};
 ghost use mathlib.Core.Bool.{true, false};
 ghost use Prim.Native.Nat.{_+_, _*_, _/_, _%_};
 ghost use Rattle.std.specs.Options.{Cases as BySome};
-ghost use Rattle.word.specs.Bytes.{packed};
+ghost use Rattle.word.specs.Bytes.{packed, unpacked};
 ghost use Rattle.word.specs.Field.{isField, fieldOf, storedIn, readBytes, storedBytes, Stored};
-ghost use Rattle.word.specs.Word.{bytesOf, fiveBytes};
+ghost use Rattle.word.specs.Word.{bytesOf};
 use crate::field::Field;
 use crate::powers::power;
 use crate::sign::Sign;
@@ -52,7 +52,7 @@ impl Word {
 // The number of the field's bytes.
 fn cut(word: Word, field: Field) -> u64
     ensures value { λ r. ⌜ r ≡ packed (readBytes field (bytesOf word)) ⌝ }
-    ensures bytes { λ r. ⌜ fiveBytes r ≡ readBytes field (bytesOf word) ⌝ }
+    ensures bytes { λ r. ⌜ unpacked 5 r ≡ readBytes field (bytesOf word) ⌝ }
 {
     let before = field.left.saturating_sub(1);
     let shifted = u64::from(word.magnitude) / power(u32::from(5 - field.right));
@@ -62,7 +62,7 @@ fn cut(word: Word, field: Field) -> u64
 // The number of the word's bytes with the register's right end in the field.
 fn splice(word: Word, field: Field, register: Word) -> u64
     ensures value { λ r. ⌜ r ≡ packed (storedBytes field (bytesOf register) (bytesOf word)) ⌝ }
-    ensures bytes { λ r. ⌜ Stored field (bytesOf register) (bytesOf word) (fiveBytes r) ⌝ }
+    ensures bytes { λ r. ⌜ Stored field (bytesOf register) (bytesOf word) (unpacked 5 r) ⌝ }
 {
     let before = field.left.saturating_sub(1);
     let high = power(u32::from(5 - before));

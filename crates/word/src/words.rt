@@ -4,8 +4,8 @@ ghost use Prim.Native.Nat.{_%_, _^_};
 ghost use lib.IntN.{pos, _-ℤ_};
 ghost use Rattle.std.specs.Options.{Cases as BySome};
 ghost use Rattle.std.specs.Orderings.{Decides};
-ghost use Rattle.word.specs.Bytes.{areBytes, packed};
-ghost use Rattle.word.specs.Word.{wordOf, madeFrom, wordFrom, fiveBytes, bytesOf, value, negative};
+ghost use Rattle.word.specs.Bytes.{areBytes, packed, unpacked};
+ghost use Rattle.word.specs.Word.{wordOf, madeFrom, wordFrom, bytesOf, value, negative};
 use crate::sign::Sign;
 use crate::sign::SignPartialEq;
 use crate::word::Word;
@@ -16,7 +16,7 @@ impl Word {
         ensures word { λ r. ⌜ r ≡ wordOf sign number ⌝ }
         ensures sign { λ r. ⌜ r .sign ≡ sign ⌝ }
         ensures magnitude { λ r. ⌜ r .magnitude ≡ number % 2 ^ 30 ⌝ }
-        ensures bytes { λ r. ⌜ bytesOf r ≡ fiveBytes number ⌝ }
+        ensures bytes { λ r. ⌜ bytesOf r ≡ unpacked 5 number ⌝ }
     {
         wrapped(sign, number)
     }
@@ -56,11 +56,28 @@ impl Word {
     }
 }
 
+// Two words are equal where sign and magnitude are: +0 and -0 differ.
+pub impl PartialEq<Word> for Word as WordPartialEq {
+    ghost equals = { λ a b r. Decides r (a ≡ b) };
+
+    fn eq(&self, other: &Word) -> bool {
+        is_same(*self, *other)
+    }
+}
+
+pub impl Eq for Word as WordEq {}
+
+fn is_same(a: Word, b: Word) -> bool
+    ensures { λ r. ⌜ Decides r (a ≡ b) ⌝ }
+{
+    a.magnitude == b.magnitude && a.sign == b.sign
+}
+
 fn wrapped(sign: Sign, number: u64) -> Word
     ensures word { λ r. ⌜ r ≡ wordOf sign number ⌝ }
     ensures sign { λ r. ⌜ r .sign ≡ sign ⌝ }
     ensures magnitude { λ r. ⌜ r .magnitude ≡ number % 2 ^ 30 ⌝ }
-    ensures bytes { λ r. ⌜ bytesOf r ≡ fiveBytes number ⌝ }
+    ensures bytes { λ r. ⌜ bytesOf r ≡ unpacked 5 number ⌝ }
 {
     Word { sign, magnitude: (number % 0x4000_0000) as u32 }
 }
@@ -80,7 +97,7 @@ fn are_bytes(bytes: &[u8]) -> bool
 // The number that five bytes write.
 fn pack(bytes: [u8; 5]) -> u64
     ensures value { λ r. ⌜ r ≡ packed bytes ⌝ }
-    ensures back { λ r. ⌜ (areBytes bytes ≡ true → fiveBytes r ≡ bytes) ⌝ }
+    ensures back { λ r. ⌜ (areBytes bytes ≡ true → unpacked 5 r ≡ bytes) ⌝ }
 {
     let [b1, b2, b3, b4, b5] = bytes;
     let high = u64::from(b1) * 0x100_0000 + u64::from(b2) * 0x4_0000;

@@ -3,7 +3,8 @@ use mathlib.Core.List.{List}
 use Prim.Native.Nat.{ℕ, _-_, _^_}
 use native.Mathlib.Omega.{arith}
 use Rattle.word.specs.Field.{Stored, storedBytes, before, width}
-use Rattle.word.specs.Word.{fiveBytes, bytesOf}
+use Rattle.word.specs.Bytes.{unpacked}
+use Rattle.word.specs.Word.{bytesOf}
 use Rattle.word.proofs.Cuts.{Spliced, stored-worked, stored-length, stored-bytes, stored-law}
 use Rattle.word.proofs.Same.{five-packed}
 use Rattle.word.proofs.fields.splice.Needs as need
@@ -43,5 +44,5 @@ returns c =
     let v = c .args .register .magnitude in
     let m = c .args .word .magnitude in
     let w = known c .value in
-    let e = ap fiveBytes w ∙ five-packed (storedBytes f (fiveBytes v) (fiveBytes m)) (stored-length f v m) (stored-bytes f v m) in
-    record { value = w; bytes = subst (Stored f (fiveBytes v) (fiveBytes m)) (sym e) (stored-law f v m) }
+    let e = ap (unpacked 5) w ∙ five-packed (storedBytes f (unpacked 5 v) (unpacked 5 m)) (stored-length f v m) (stored-bytes f v m) in
+    record { value = w; bytes = subst (Stored f (unpacked 5 v) (unpacked 5 m)) (sym e) (stored-law f v m) }

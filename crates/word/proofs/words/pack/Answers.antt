@@ -1,8 +1,7 @@
 use mathlib.Core.Path.{_≡_, ap, _∙_}
 use native.Mathlib.Omega.{arith}
 use lib.ListN.{length}
-use Rattle.word.specs.Bytes.{packed}
-use Rattle.word.specs.Word.{fiveBytes}
+use Rattle.word.specs.Bytes.{unpacked}
 use Rattle.word.proofs.Bytes.{packed-by-five}
 use Rattle.word.proofs.Same.{five-packed}
 use Rattle.word.proofs.words.pack.Needs as need
@@ -11,4 +10,4 @@ pub returns : need.returns
 returns c =
     let n : length (c .args .bytes) ≡ 5 = omega arith in
     let e = packed-by-five (c .args .bytes) n in
-    record { value = omega arith; back = λ p. ap fiveBytes (omega arith) ∙ five-packed (c .args .bytes) n p }
+    record { value = omega arith; back = λ p. ap (unpacked 5) (omega arith) ∙ five-packed (c .args .bytes) n p }
