@@ -3,13 +3,13 @@ use mathlib.Core.Path.{_≡_, refl, sym, ap, _∙_}
 use mathlib.Core.Bool.{Bool, true, false, _&&_}
 use mathlib.Core.List.{List, [], _∷_, _++_}
 use Prim.Native.Nat.{ℕ, zero, suc, _+_, _-_, _*_, _/_, _%_, _^_, _<_, _≤_}
-use native.Mathlib.Nat.{one-le-pow, pow-suc, add-mul, mul-assoc, mod-one}
+use native.Mathlib.Nat.{one-le-pow, pow-suc, add-mul, mul-assoc, mod-one, zero-add, add-zero, suc-add, div-div-eq-div-mul}
 use native.Mathlib.Omega.{arith}
 use lib.Arith.{digits-lt, digits-div, digits-mod, mod-mul}
 use lib.Dec.{ltb}
-use lib.ListN.{length, getD, take, drop, replicate, length-append, length-drop}
+use lib.ListN.{length, getD, take, drop, replicate, length-append, length-drop, length-replicate}
 use Rattle.std.proofs.shelf.Bits.{pow-add, mod-below}
-use Rattle.std.proofs.shelf.Lists.{take-append-drop, at-drop-more}
+use Rattle.std.proofs.shelf.Lists.{take-append-drop, at-drop-more, append-nil}
 use Rattle.std.proofs.shelf.Tests.{and-parts, and-from, ltb-true, lt-ltb}
 use Rattle.word.specs.Bytes.{packed, unpacked, areBytes}
 
@@ -65,6 +65,13 @@ packed-append (x ∷ xs) ys =
 pub packed-zeros : (n : ℕ) (xs : List ℕ) → packed (replicate n 0 ++ xs) ≡ packed xs
 packed-zeros zero xs = refl
 packed-zeros (suc n) xs = let e = packed-zeros n xs in omega arith
+
+pub packed-filled : (n : ℕ) (xs : List ℕ) → packed (xs ++ replicate n 0) ≡ packed xs * 64 ^ n
+packed-filled n xs =
+    packed-append xs (replicate n 0)
+    ∙ ap (λ (k : ℕ). packed xs * 64 ^ k + packed (replicate n 0)) (length-replicate n 0)
+    ∙ ap (λ (m : ℕ). packed xs * 64 ^ n + m) (ap packed (sym (append-nil (replicate n 0))) ∙ packed-zeros n [])
+    ∙ add-zero (packed xs * 64 ^ n)
 
 -- a list of bytes stays below the next power
 pub packed-lt : (bs : List ℕ) → areBytes bs ≡ true → packed bs < 64 ^ length bs
@@ -123,6 +130,27 @@ under q (b ∷ bs) p =
 
 pub unpacked-packed : (bs : List ℕ) → areBytes bs ≡ true → unpacked (length bs) (packed bs) ≡ bs
 unpacked-packed bs p = ap (unpacked (length bs)) (omega arith) ∙ under 0 bs p
+
+-- the bytes above the n-th do not count
+pub unpacked-rest : (n m : ℕ) → unpacked n (m % 64 ^ n) ≡ unpacked n m
+unpacked-rest n m =
+    ap (unpacked n) (sym (packed-unpacked n m))
+    ∙ ap (λ (k : ℕ). unpacked k (packed (unpacked n m))) (sym (length-unpacked n m))
+    ∙ unpacked-packed (unpacked n m) (bytes-unpacked n m)
+
+-- a list of bytes is the bytes of its number
+pub unpacked-at : (n : ℕ) (bs : List ℕ) → length bs ≡ n → areBytes bs ≡ true → unpacked n (packed bs) ≡ bs
+unpacked-at n bs e p = ap (λ (k : ℕ). unpacked k (packed bs)) (sym e) ∙ unpacked-packed bs p
+
+-- the bytes of a number in two parts
+pub unpacked-split : (j k m : ℕ) → unpacked (j + k) m ≡ unpacked j (m / 64 ^ k) ++ unpacked k m
+unfolding unpacked
+unpacked-split zero k m = ap (λ (n : ℕ). unpacked n m) (zero-add k)
+unpacked-split (suc j) k m =
+    ap (λ (n : ℕ). unpacked n m) (suc-add j k)
+    ∙ ap (λ (l : List ℕ). (m / 64 ^ (j + k) % 64) ∷ l) (unpacked-split j k m)
+    ∙ ap (λ (n : ℕ). (n % 64) ∷ (unpacked j (m / 64 ^ k) ++ unpacked k m))
+    (ap (λ (n : ℕ). m / 64 ^ n) (omega arith) ∙ ap (λ (n : ℕ). m / n) (pow-add 64 k j) ∙ sym (div-div-eq-div-mul m (64 ^ k) (64 ^ j)))
 
 -- one byte further, for a loop over bytes
 pub bytes-at : (xs : List ℕ) (i : ℕ) → i < length xs → areBytes (drop i xs) ≡ (ltb (getD xs i 0) 64 && areBytes (drop (i + 1) xs))

@@ -11,7 +11,7 @@ use Rattle.word.specs.declared.field.Field.{Field}
 use Rattle.word.specs.Bytes.{packed, unpacked, areBytes}
 use Rattle.word.specs.Field.{before, width, inside, rightEnd, readBytes, storedBytes, Stored}
 use Rattle.word.proofs.Bytes.{bytes-append, bytes-take, bytes-drop, bytes-zeros, packed-zeros, packed-append, packed-take, packed-drop, packed-lt}
-use Rattle.word.proofs.Same.{length-five, bytes-five, packed-five, five-packed}
+use Rattle.word.proofs.Same.{length-five, bytes-five, packed-five}
 
 -- how the field lies in a word
 pub record Lies (f : Field) : Type 0 where

@@ -12,7 +12,7 @@ use Rattle.word.specs.declared.word.Word.{Word}
 use Rattle.word.specs.declared.sign.Sign.{Sign}
 use Rattle.word.specs.Bytes.{packed, unpacked, areBytes}
 use Rattle.word.specs.Word.{wordOf, wordFrom, bytesOf}
-use Rattle.word.proofs.Bytes.{length-unpacked, bytes-unpacked, packed-unpacked, unpacked-packed}
+use Rattle.word.proofs.Bytes.{length-unpacked, bytes-unpacked, packed-unpacked, unpacked-rest, unpacked-at}
 
 -- a word is its sign and its magnitude
 pub word-same : (a b : Word) → a .sign ≡ b .sign → a .magnitude ≡ b .magnitude → a ≡ b
@@ -29,13 +29,6 @@ wordOf-magnitude s m = refl
 pub wordOf-same : (w : Word) → wordOf (w .sign) (w .magnitude) ≡ w
 wordOf-same w = word-same (wordOf (w .sign) (w .magnitude)) w (wordOf-sign (w .sign) (w .magnitude)) (wordOf-magnitude (w .sign) (w .magnitude) ∙ mod-eq-of-lt (w .small))
 
--- bytes above the fifth do not count
-pub five-rest : (m : ℕ) → unpacked 5 (m % 2 ^ 30) ≡ unpacked 5 m
-five-rest m =
-    ap (unpacked 5) (sym (packed-unpacked 5 m))
-    ∙ ap (λ (n : ℕ). unpacked n (packed (unpacked 5 m))) (sym (length-unpacked 5 m))
-    ∙ unpacked-packed (unpacked 5 m) (bytes-unpacked 5 m)
-
 pub length-five : (m : ℕ) → length (unpacked 5 m) ≡ 5
 length-five m = length-unpacked 5 m
 
@@ -50,14 +43,10 @@ pub five-written : (m : ℕ) → (m / 16777216 % 64) ∷ (m / 262144 % 64) ∷ (
 unfolding unpacked
 five-written m = ap (λ (d : ℕ). (m / 16777216 % 64) ∷ (m / 262144 % 64) ∷ (m / 4096 % 64) ∷ (m / 64 % 64) ∷ (d % 64) ∷ []) (sym (div-one m))
 
--- five bytes to a number and back
-pub five-packed : (bs : List ℕ) → length bs ≡ 5 → areBytes bs ≡ true → unpacked 5 (packed bs) ≡ bs
-five-packed bs n p = ap (λ (k : ℕ). unpacked k (packed bs)) (sym n) ∙ unpacked-packed bs p
-
 -- a word to its bytes and back
 pub from-bytes-of : (w : Word) → wordFrom (w .sign) (bytesOf w) ≡ w
 from-bytes-of w = ap (wordOf (w .sign)) (packed-five (w .magnitude) ∙ mod-eq-of-lt (w .small)) ∙ wordOf-same w
 
 -- bytes to a word and back
 pub bytes-of-from : (s : Sign) (bs : List ℕ) → length bs ≡ 5 → areBytes bs ≡ true → bytesOf (wordFrom s bs) ≡ bs
-bytes-of-from s bs n p = ap (unpacked 5) (wordOf-magnitude s (packed bs)) ∙ five-rest (packed bs) ∙ five-packed bs n p
+bytes-of-from s bs n p = ap (unpacked 5) (wordOf-magnitude s (packed bs)) ∙ unpacked-rest 5 (packed bs) ∙ unpacked-at 5 bs n p

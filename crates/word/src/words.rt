@@ -5,6 +5,7 @@ ghost use lib.IntN.{pos, _-ℤ_};
 ghost use Rattle.std.specs.Options.{Cases as BySome};
 ghost use Rattle.std.specs.Orderings.{Decides};
 ghost use Rattle.word.specs.Bytes.{areBytes, packed, unpacked};
+ghost use Rattle.word.specs.Sign.{opposite};
 ghost use Rattle.word.specs.Word.{wordOf, madeFrom, wordFrom, bytesOf, value, negative};
 use crate::sign::Sign;
 use crate::sign::SignPartialEq;
@@ -43,6 +44,8 @@ impl Word {
     // The word with its sign turned.
     pub fn negated(self) -> Word
         ensures word { λ r. ⌜ r ≡ negative self ⌝ }
+        ensures sign { λ r. ⌜ r .sign ≡ opposite (self .sign) ⌝ }
+        ensures magnitude { λ r. ⌜ r .magnitude ≡ self .magnitude ⌝ }
         ensures number { λ r. ⌜ value r ≡ pos 0 -ℤ value self ⌝ }
     {
         Word::wrapping(self.sign.turned(), u64::from(self.magnitude))

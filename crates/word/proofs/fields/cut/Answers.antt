@@ -5,7 +5,7 @@ use Rattle.word.specs.Field.{readBytes, width}
 use Rattle.word.specs.Bytes.{unpacked}
 use Rattle.word.specs.Word.{bytesOf}
 use Rattle.word.proofs.Cuts.{read-worked, read-length, read-bytes}
-use Rattle.word.proofs.Same.{five-packed}
+use Rattle.word.proofs.Bytes.{unpacked-at}
 use Rattle.word.proofs.fields.cut.Needs as need
 
 pub div-shifted : need.div-shifted
@@ -21,5 +21,5 @@ returns c =
     let w = read-worked (c .args .field) (c .args .word .magnitude) (c .from .result) (c .power .result) (c .power-2 .result) (c .from .ensures) low span (c .args .word .small) in
     record {
       value = w;
-      bytes = ap (unpacked 5) w ∙ five-packed (readBytes (c .args .field) (bytesOf (c .args .word))) (read-length (c .args .field) (c .args .word .magnitude)) (read-bytes (c .args .field) (c .args .word .magnitude));
+      bytes = ap (unpacked 5) w ∙ unpacked-at 5 (readBytes (c .args .field) (bytesOf (c .args .word))) (read-length (c .args .field) (c .args .word .magnitude)) (read-bytes (c .args .field) (c .args .word .magnitude));
     }

@@ -6,7 +6,7 @@ use Rattle.word.specs.Field.{Stored, storedBytes, before, width}
 use Rattle.word.specs.Bytes.{unpacked}
 use Rattle.word.specs.Word.{bytesOf}
 use Rattle.word.proofs.Cuts.{Spliced, stored-worked, stored-length, stored-bytes, stored-law}
-use Rattle.word.proofs.Same.{five-packed}
+use Rattle.word.proofs.Bytes.{unpacked-at}
 use Rattle.word.proofs.fields.splice.Needs as need
 
 -- what every need below rests on
@@ -44,5 +44,5 @@ returns c =
     let v = c .args .register .magnitude in
     let m = c .args .word .magnitude in
     let w = known c .value in
-    let e = ap (unpacked 5) w ∙ five-packed (storedBytes f (unpacked 5 v) (unpacked 5 m)) (stored-length f v m) (stored-bytes f v m) in
+    let e = ap (unpacked 5) w ∙ unpacked-at 5 (storedBytes f (unpacked 5 v) (unpacked 5 m)) (stored-length f v m) (stored-bytes f v m) in
     record { value = w; bytes = subst (Stored f (unpacked 5 v) (unpacked 5 m)) (sym e) (stored-law f v m) }

@@ -1,0 +1,2 @@
+pub mod Tens
+pub mod Moves
