@@ -12,7 +12,11 @@ pub fn enter(instruction: Sign, m: Word) -> Word
     ensures number { λ r. ⌜ value r ≡ value m ⌝ }
     ensures zero { λ r. ⌜ (m .magnitude ≡ 0 → r .sign ≡ instruction) ⌝ }
 {
-    let sign = if m.magnitude == 0 { instruction } else { m.sign };
+    let sign = if m.magnitude == 0 {
+        instruction
+    } else {
+        m.sign
+    };
     Word::wrapping(sign, u64::from(m.magnitude))
 }
 

@@ -21,5 +21,8 @@ pub(crate) fn split(a: Sign, x: Sign, number: u64) -> (Word, Word)
     ensures bytes { λ r. ⌜ tenBytes (r .0) (r .1) ≡ unpacked 10 number ⌝ }
     ensures whole { λ r. ⌜ (number < 64 ^ 10 → joint (r .0) (r .1) ≡ number) ⌝ }
 {
-    (Word::wrapping(a, number / 0x4000_0000), Word::wrapping(x, number))
+    (
+        Word::wrapping(a, number / 0x4000_0000),
+        Word::wrapping(x, number),
+    )
 }

@@ -28,7 +28,13 @@ pub fn divide(a: Word, x: Word, v: Word) -> ((Word, Word), bool)
         return ((a, x), true);
     }
     let (quotient, rest) = quotient_and_rest(a, x, v);
-    ((Word::wrapping(a.sign.times(v.sign), quotient), Word::wrapping(a.sign, rest)), false)
+    (
+        (
+            Word::wrapping(a.sign.times(v.sign), quotient),
+            Word::wrapping(a.sign, rest),
+        ),
+        false,
+    )
 }
 
 // The product of two magnitudes.

@@ -14,7 +14,10 @@ pub fn sla(a: Word, x: Word, count: u32) -> (Word, Word)
     ensures words { λ r. ⌜ r ≡ slaOf count a x ⌝ }
     ensures bytes { λ r. ⌜ bytesOf (r .0) ≡ shiftedLeft count (bytesOf a) ⌝ }
 {
-    (Word::wrapping(a.sign, left(u64::from(a.magnitude), 5, count)), x)
+    (
+        Word::wrapping(a.sign, left(u64::from(a.magnitude), 5, count)),
+        x,
+    )
 }
 
 // The bytes of A move right by `count`; X stays.
@@ -22,7 +25,10 @@ pub fn sra(a: Word, x: Word, count: u32) -> (Word, Word)
     ensures words { λ r. ⌜ r ≡ sraOf count a x ⌝ }
     ensures bytes { λ r. ⌜ bytesOf (r .0) ≡ shiftedRight count (bytesOf a) ⌝ }
 {
-    (Word::wrapping(a.sign, right(u64::from(a.magnitude), 5, count)), x)
+    (
+        Word::wrapping(a.sign, right(u64::from(a.magnitude), 5, count)),
+        x,
+    )
 }
 
 // The ten bytes of AX move left by `count`.

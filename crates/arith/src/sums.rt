@@ -18,7 +18,10 @@ pub fn add(register: Word, v: Word) -> Sum
     ensures zero { λ r. ⌜ (r .word .magnitude ≡ 0 → r .word .sign ≡ register .sign) ⌝ }
 {
     let (sign, size) = total(register, v);
-    Sum { word: Word::wrapping(sign, u64::from(size)), overflow: size >= 0x4000_0000 }
+    Sum {
+        word: Word::wrapping(sign, u64::from(size)),
+        overflow: size >= 0x4000_0000,
+    }
 }
 
 // The register less v.
@@ -36,7 +39,11 @@ pub fn add_index(register: Index, m: Word) -> Option<Index>
     ensures { λ r. ⌜ IndexSum register (m .sign) (m .magnitude) r ⌝ }
 {
     let sum = add(register.to_word(), m);
-    if sum.overflow { None } else { Index::from_word(sum.word) }
+    if sum.overflow {
+        None
+    } else {
+        Index::from_word(sum.word)
+    }
 }
 
 // An index register less m; none where the difference is beyond 4,095.

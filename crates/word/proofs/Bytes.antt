@@ -125,6 +125,7 @@ under q (b ∷ bs) p =
   where
     h : (ltb b 64 ≡ true) × (areBytes bs ≡ true)
     h = and-parts (ltb b 64) (areBytes bs) p
+
     rest : List ℕ
     rest = unpacked (length bs) ((q * 64 + b) * 64 ^ length bs + packed bs)
 

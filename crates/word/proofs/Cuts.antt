@@ -106,9 +106,9 @@ module _ (f : Field) (v m : ℕ) where
   stored-law =
       record {
         reads =
-          ap (λ (l : List ℕ). drop (before f) (take (f .right) l)) (sym (append-assoc left middle end))
-          ∙ ap (drop (before f)) (take-at (left ++ middle) end (f .right) up-to-length)
-          ∙ drop-at left middle (before f) left-length;
+            ap (λ (l : List ℕ). drop (before f) (take (f .right) l)) (sym (append-assoc left middle end))
+            ∙ ap (drop (before f)) (take-at (left ++ middle) end (f .right) up-to-length)
+            ∙ drop-at left middle (before f) left-length;
         left = take-at left (middle ++ end) (before f) left-length;
         right = ap (drop (f .right)) (sym (append-assoc left middle end)) ∙ drop-at (left ++ middle) end (f .right) up-to-length;
       }
@@ -126,16 +126,19 @@ module _ (f : Field) (v m : ℕ) where
           packed-take (before f) (unpacked 5 m) (bytes-five m)
           ∙ ap (λ (k : ℕ). packed (unpacked 5 m) / 64 ^ (k - before f)) (length-five m)
           ∙ ap (λ (n : ℕ). n / 64 ^ (5 - before f)) (small-five m q)
+
       at-end : packed end ≡ m % 64 ^ (5 - f .right)
       at-end =
           packed-drop (f .right) (unpacked 5 m) (bytes-five m)
           ∙ ap (λ (k : ℕ). packed (unpacked 5 m) % 64 ^ (k - f .right)) (length-five m)
           ∙ ap (λ (n : ℕ). n % 64 ^ (5 - f .right)) (small-five m q)
+
       at-middle : packed middle ≡ v % 64 ^ width f
       at-middle =
           packed-drop (5 - width f) (unpacked 5 v) (bytes-five v)
           ∙ ap (λ (k : ℕ). packed (unpacked 5 v) % 64 ^ k) (let l = lies f in let e = length-five v in omega arith)
           ∙ ap (λ (n : ℕ). n % 64 ^ width f) (small-five v p)
+
       parts : packed left * 64 ^ (5 - before f) + (packed middle * 64 ^ (5 - f .right) + packed end) ≡ m / 64 ^ (5 - before f) * 64 ^ (5 - before f) + v % 64 ^ width f * 64 ^ (5 - f .right) + m % 64 ^ (5 - f .right)
       parts = simp (at-left, at-middle, at-end) (omega arith)
 
@@ -147,12 +150,12 @@ module _ (f : Field) (v m : ℕ) where
   pub stored-worked : (u n h s l : ℕ) → u ≡ v → n ≡ m → h ≡ 64 ^ (5 - before f) → s ≡ 64 ^ width f → l ≡ 64 ^ (5 - f .right) → v < 2 ^ 30 → m < 2 ^ 30 → Spliced u n h s l
   stored-worked u n h s l d e g i j p q =
       let w : n / h * h + u % s * l + n % l ≡ packed (storedBytes f (unpacked 5 v) (unpacked 5 m)) =
-            ap (λ (k : ℕ). n / h * h + k % s * l + n % l) d
-            ∙ ap (λ (k : ℕ). k / h * h + v % s * l + k % l) e
-            ∙ ap (λ (k : ℕ). m / k * k + v % s * l + m % l) g
-            ∙ ap (λ (k : ℕ). m / 64 ^ (5 - before f) * 64 ^ (5 - before f) + v % k * l + m % l) i
-            ∙ ap (λ (k : ℕ). m / 64 ^ (5 - before f) * 64 ^ (5 - before f) + v % 64 ^ width f * k + m % k) j
-            ∙ sym (stored-value p q)
+      ap (λ (k : ℕ). n / h * h + k % s * l + n % l) d
+      ∙ ap (λ (k : ℕ). k / h * h + v % s * l + k % l) e
+      ∙ ap (λ (k : ℕ). m / k * k + v % s * l + m % l) g
+      ∙ ap (λ (k : ℕ). m / 64 ^ (5 - before f) * 64 ^ (5 - before f) + v % k * l + m % l) i
+      ∙ ap (λ (k : ℕ). m / 64 ^ (5 - before f) * 64 ^ (5 - before f) + v % 64 ^ width f * k + m % k) j
+      ∙ sym (stored-value p q)
       in
       let b = packed-lt (storedBytes f (unpacked 5 v) (unpacked 5 m)) stored-bytes in
       let k : 64 ^ length (storedBytes f (unpacked 5 v) (unpacked 5 m)) ≡ 1073741824 = ap (λ (x : ℕ). 64 ^ x) stored-length in

@@ -17,7 +17,11 @@ impl Field {
     {
         let left = code / 8;
         let right = code % 8;
-        if left <= right && right <= 5 { Some(Field { left, right }) } else { None }
+        if left <= right && right <= 5 {
+            Some(Field { left, right })
+        } else {
+            None
+        }
     }
 
     // F = 8 L + R.
@@ -35,7 +39,11 @@ impl Word {
         ensures word { λ r. ⌜ r ≡ fieldOf field self ⌝ }
         ensures bytes { λ r. ⌜ bytesOf r ≡ readBytes field (bytesOf self) ⌝ }
     {
-        let sign = if field.left == 0 { self.sign } else { Sign::Plus };
+        let sign = if field.left == 0 {
+            self.sign
+        } else {
+            Sign::Plus
+        };
         Word::wrapping(sign, cut(self, field))
     }
 
@@ -44,7 +52,11 @@ impl Word {
         ensures word { λ r. ⌜ r ≡ storedIn field register self ⌝ }
         ensures bytes { λ r. ⌜ Stored field (bytesOf register) (bytesOf self) (bytesOf r) ⌝ }
     {
-        let sign = if field.left == 0 { register.sign } else { self.sign };
+        let sign = if field.left == 0 {
+            register.sign
+        } else {
+            self.sign
+        };
         Word::wrapping(sign, splice(self, field, register))
     }
 }

@@ -13,7 +13,10 @@ impl Index {
         if word.magnitude > 4095 {
             return None;
         }
-        Some(Index { sign: word.sign, magnitude: word.magnitude as u16 })
+        Some(Index {
+            sign: word.sign,
+            magnitude: word.magnitude as u16,
+        })
     }
 
     // The index as a word.

@@ -82,7 +82,10 @@ fn wrapped(sign: Sign, number: u64) -> Word
     ensures magnitude { λ r. ⌜ r .magnitude ≡ number % 2 ^ 30 ⌝ }
     ensures bytes { λ r. ⌜ bytesOf r ≡ unpacked 5 number ⌝ }
 {
-    Word { sign, magnitude: (number % 0x4000_0000) as u32 }
+    Word {
+        sign,
+        magnitude: (number % 0x4000_0000) as u32,
+    }
 }
 
 // Whether each is a byte of 0 to 63.

@@ -13,8 +13,8 @@ returns c =
       words = search needs;
       signs = search needs;
       bytes =
-        ap (λ (l : List ℕ). l ++ unpacked 5 (c .wrapping-2 .result .magnitude)) (c .wrapping .ensures .bytes)
-        ∙ ap (λ (l : List ℕ). unpacked 5 (c .args .number / 1073741824) ++ l) (c .wrapping-2 .ensures .bytes)
-        ∙ sym (unpacked-split 5 5 (c .args .number));
+          ap (λ (l : List ℕ). l ++ unpacked 5 (c .wrapping-2 .result .magnitude)) (c .wrapping .ensures .bytes)
+          ∙ ap (λ (l : List ℕ). unpacked 5 (c .args .number / 1073741824) ++ l) (c .wrapping-2 .ensures .bytes)
+          ∙ sym (unpacked-split 5 5 (c .args .number));
       whole = λ h. halves (c .args .number) (c .wrapping .result .magnitude) (c .wrapping-2 .result .magnitude) (c .wrapping .ensures .magnitude) (c .wrapping-2 .ensures .magnitude) h;
     }

@@ -11,8 +11,8 @@ pub returns : need.returns
 returns c =
     let bs = unpacked (c .args .length) (c .args .number) in
     let w : c .args .number / c .power .result ≡ packed (shiftedRight (c .args .count) bs) =
-          right-worked (c .args .length) (c .args .number) (c .pre .1) (c .args .count) (c .power .result)
-          (c .power .ensures .exact (omega arith) ∙ ap (λ (n : ℕ). 64 ^ n) (c .min .ensures))
+    right-worked (c .args .length) (c .args .number) (c .pre .1) (c .args .count) (c .power .result)
+    (c .power .ensures .exact (omega arith) ∙ ap (λ (n : ℕ). 64 ^ n) (c .min .ensures))
     in
     record {
       value = w;
