@@ -11,5 +11,9 @@ fn run(rt: &LibcRuntime) -> Result<(), AnyError> {
 }
 
 fn main(rt: LibcRuntime) -> Result<(), AnyError> {
-    rt.report(run(&rt))
+    let result = run(&rt);
+    if let Err(why) = &result {
+        let _ = eprintln!(rt, "mixjob: {why}");
+    }
+    result
 }
