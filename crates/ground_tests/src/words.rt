@@ -7,7 +7,7 @@ use word::WordDebug;
 use word::WordPartialEq;
 
 // The word of a sign and five bytes.
-pub fn word(sign: Sign, bytes: [u8; 5]) -> Result<Word, Fail> {
+pub(crate) fn word(sign: Sign, bytes: [u8; 5]) -> Result<Word, Fail> {
     match Word::from_bytes(sign, bytes) {
         Some(word) => Ok(word),
         None => Err(Fail::new("a byte is above 63")),

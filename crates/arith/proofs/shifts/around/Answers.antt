@@ -1,5 +1,5 @@
 use mathlib.Core.Path.{_≡_, ap, _∙_}
-use Prim.Native.Nat.{ℕ, _+_, _-_, _*_, _/_, _%_, _^_}
+use Prim.Native.Nat.{_+_, _-_, _*_, _/_, _%_, _^_, _<_}
 use native.Mathlib.Omega.{arith}
 use Rattle.word.specs.Bytes.{packed, unpacked}
 use Rattle.word.proofs.Bytes.{bytes-unpacked, length-unpacked}
@@ -13,17 +13,17 @@ worked c =
     turned-worked 10 (c .args .number) (c .pre .0) (c .args .count) (c .power-back .result) (c .power .result) (c .pre .1)
     (c .power-back .ensures .exact (omega arith)) (c .power .ensures .exact (omega arith))
 
-pub mul-result : need.mul-result
-mul-result c =
+-- and has ten bytes at most
+small : (c : need.After-power) → packed (turned (c .args .count) (unpacked 10 (c .args .number))) < 64 ^ 10
+small c =
     let bs = unpacked 10 (c .args .number) in
-    let k = fits 10 (c .args .number) (c .pre .0) (turned (c .args .count) bs) (turned-length (c .args .count) bs) (turned-bytes (c .args .count) bs (bytes-unpacked 10 (c .args .number))) (omega arith) in
-    omega (arith, worked c)
+    fits 10 (c .args .number) (c .pre .0) (turned (c .args .count) bs) (turned-length (c .args .count) bs) (turned-bytes (c .args .count) bs (bytes-unpacked 10 (c .args .number))) (omega arith)
+
+pub mul-result : need.mul-result
+mul-result c = omega (arith, worked c, small c)
 
 pub add-result : need.add-result
-add-result c =
-    let bs = unpacked 10 (c .args .number) in
-    let k = fits 10 (c .args .number) (c .pre .0) (turned (c .args .count) bs) (turned-length (c .args .count) bs) (turned-bytes (c .args .count) bs (bytes-unpacked 10 (c .args .number))) (omega arith) in
-    omega (arith, worked c)
+add-result c = omega (arith, worked c, small c)
 
 pub returns : need.returns
 returns c =

@@ -1,0 +1,5 @@
+pub mod Lines
+pub mod Keys
+pub mod Rule
+pub mod Found
+pub mod Clock

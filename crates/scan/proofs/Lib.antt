@@ -1,0 +1,5 @@
+pub mod Marks
+pub mod Digits
+pub mod Reading
+pub mod Commas
+pub mod Written

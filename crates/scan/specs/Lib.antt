@@ -1,0 +1,6 @@
+pub mod Cuts
+pub mod Columns
+pub mod Symbols
+pub mod Atoms
+pub mod Terms
+pub mod Address

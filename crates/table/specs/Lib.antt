@@ -1,0 +1,4 @@
+pub mod Order
+pub mod Keys
+pub mod Pairs
+pub mod Items
