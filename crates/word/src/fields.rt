@@ -37,7 +37,7 @@ impl Word {
     // The field's bytes at the right end, plus unless byte 0 is in the field.
     pub fn field(self, field: Field) -> Word
         ensures word { λ r. ⌜ r ≡ fieldOf field self ⌝ }
-        ensures bytes { λ r. ⌜ bytesOf r ≡ readBytes field (bytesOf self) ⌝ }
+        ensures bytes { λ r. ⌜ bytesOf r ≡ readBytes (field .left) (field .right) (bytesOf self) ⌝ }
     {
         let sign = if field.left == 0 {
             self.sign
@@ -50,7 +50,7 @@ impl Word {
     // The word with the field filled from the register's right end, the sign only if byte 0 is in the field.
     pub fn with_field(self, field: Field, register: Word) -> Word
         ensures word { λ r. ⌜ r ≡ storedIn field register self ⌝ }
-        ensures bytes { λ r. ⌜ Stored field (bytesOf register) (bytesOf self) (bytesOf r) ⌝ }
+        ensures bytes { λ r. ⌜ Stored (field .left) (field .right) (bytesOf register) (bytesOf self) (bytesOf r) ⌝ }
     {
         let sign = if field.left == 0 {
             register.sign
@@ -63,8 +63,8 @@ impl Word {
 
 // The number of the field's bytes.
 fn cut(word: Word, field: Field) -> u64
-    ensures value { λ r. ⌜ r ≡ packed (readBytes field (bytesOf word)) ⌝ }
-    ensures bytes { λ r. ⌜ unpacked 5 r ≡ readBytes field (bytesOf word) ⌝ }
+    ensures value { λ r. ⌜ r ≡ packed (readBytes (field .left) (field .right) (bytesOf word)) ⌝ }
+    ensures bytes { λ r. ⌜ unpacked 5 r ≡ readBytes (field .left) (field .right) (bytesOf word) ⌝ }
 {
     let before = field.left.saturating_sub(1);
     let shifted = u64::from(word.magnitude) / power(u32::from(5 - field.right));
@@ -73,8 +73,8 @@ fn cut(word: Word, field: Field) -> u64
 
 // The number of the word's bytes with the register's right end in the field.
 fn splice(word: Word, field: Field, register: Word) -> u64
-    ensures value { λ r. ⌜ r ≡ packed (storedBytes field (bytesOf register) (bytesOf word)) ⌝ }
-    ensures bytes { λ r. ⌜ Stored field (bytesOf register) (bytesOf word) (unpacked 5 r) ⌝ }
+    ensures value { λ r. ⌜ r ≡ packed (storedBytes (field .left) (field .right) (bytesOf register) (bytesOf word)) ⌝ }
+    ensures bytes { λ r. ⌜ Stored (field .left) (field .right) (bytesOf register) (bytesOf word) (unpacked 5 r) ⌝ }
 {
     let before = field.left.saturating_sub(1);
     let high = power(u32::from(5 - before));

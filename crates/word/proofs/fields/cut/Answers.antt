@@ -17,9 +17,9 @@ rem-result c = c .power-2 .ensures .positive
 pub returns : need.returns
 returns c =
     let low : c .power .result ≡ 64 ^ (5 - c .args .field .right) = c .power .ensures .exact (omega arith) ∙ ap (λ (n : ℕ). 64 ^ n) (c .from-2 .ensures) in
-    let span : c .power-2 .result ≡ 64 ^ width (c .args .field) = c .power-2 .ensures .exact (omega (arith, c .args .field .within)) ∙ ap (λ (n : ℕ). 64 ^ n) (omega arith) in
+    let span : c .power-2 .result ≡ 64 ^ width (c .args .field .left) (c .args .field .right) = c .power-2 .ensures .exact (omega (arith, c .args .field .within)) ∙ ap (λ (n : ℕ). 64 ^ n) (omega arith) in
     let w = read-worked (c .args .field) (c .args .word .magnitude) (c .from .result) (c .power .result) (c .power-2 .result) (c .from .ensures) low span (c .args .word .small) in
     record {
       value = w;
-      bytes = ap (unpacked 5) w ∙ unpacked-at 5 (readBytes (c .args .field) (bytesOf (c .args .word))) (read-length (c .args .field) (c .args .word .magnitude)) (read-bytes (c .args .field) (c .args .word .magnitude));
+      bytes = ap (unpacked 5) w ∙ unpacked-at 5 (readBytes (c .args .field .left) (c .args .field .right) (bytesOf (c .args .word))) (read-length (c .args .field) (c .args .word .magnitude)) (read-bytes (c .args .field) (c .args .word .magnitude));
     }

@@ -44,5 +44,5 @@ returns c =
     let v = c .args .register .magnitude in
     let m = c .args .word .magnitude in
     let w = known c .value in
-    let e = ap (unpacked 5) w ∙ unpacked-at 5 (storedBytes f (unpacked 5 v) (unpacked 5 m)) (stored-length f v m) (stored-bytes f v m) in
-    record { value = w; bytes = subst (Stored f (unpacked 5 v) (unpacked 5 m)) (sym e) (stored-law f v m) }
+    let e = ap (unpacked 5) w ∙ unpacked-at 5 (storedBytes (f .left) (f .right) (unpacked 5 v) (unpacked 5 m)) (stored-length f v m) (stored-bytes f v m) in
+    record { value = w; bytes = subst (Stored (f .left) (f .right) (unpacked 5 v) (unpacked 5 m)) (sym e) (stored-law f v m) }
