@@ -7,18 +7,14 @@ use native.Mathlib.Omega.{arith}
 use borrow.Rule.Slice.PartMut.{postOf}
 use lib.Dec.{eqb}
 use lib.ListN.{length, getD, set, take, replicate, length-append}
+use Rattle.std.proofs.shelf.Lists.{take-all}
 use Rattle.std.proofs.shelf.Tests.{cond-false, and-right, ne-eqb}
+use Rattle.card.proofs.Parts.{take-five}
 use Rattle.card.specs.Lines.{trimmed}
 
 -- a list of five, by its elements
 pub five : (xs : List ℕ) → length xs ≡ 5 → xs ≡ getD xs 0 0 ∷ getD xs 1 0 ∷ getD xs 2 0 ∷ getD xs 3 0 ∷ getD xs 4 0 ∷ []
-five [] h = absurd (omega arith)
-five (a ∷ []) h = absurd (omega arith)
-five (a ∷ b ∷ []) h = absurd (omega arith)
-five (a ∷ b ∷ c ∷ []) h = absurd (omega arith)
-five (a ∷ b ∷ c ∷ d ∷ []) h = absurd (omega arith)
-five (a ∷ b ∷ c ∷ d ∷ e ∷ []) h = refl
-five (a ∷ b ∷ c ∷ d ∷ e ∷ f ∷ xs) h = absurd (omega arith)
+five xs h = sym (take-all 5 xs (omega arith)) ∙ take-five 0 xs (omega arith)
 
 -- four elements before a list are the list of them before it
 pub quad : (xs ys : List ℕ) → length xs ≡ 4 → getD xs 0 0 ∷ getD xs 1 0 ∷ getD xs 2 0 ∷ getD xs 3 0 ∷ ys ≡ xs ++ ys
