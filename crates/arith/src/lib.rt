@@ -1,4 +1,6 @@
 // The arithmetic of MIX on words: sums, products, quotients, shifts, comparison, and what ENT and ENN load.
+#![tactic(auto)]
+
 mod compares;
 mod enters;
 mod pairs;

@@ -1,4 +1,6 @@
 // Characters, words as text, and cards.
+#![tactic(auto)]
+
 mod cards;
 mod lines;
 mod table;

@@ -1,4 +1,6 @@
 // The assembler, with the laws of its decks in the words of the subject.
+#![tactic(auto)]
+
 ghost use Rattle.deck_laws.specs.Lawful.{Lawful};
 
 use mixal::{Deck, Refusal};

@@ -1,4 +1,6 @@
 // Tests of card text, operation names, values and lines. The expected values are worked by hand from the rules.
+#![tactic(auto)]
+
 #[cfg(test)]
 mod addresses;
 #[cfg(test)]

@@ -1,4 +1,6 @@
 // Tests of words, arithmetic and cards at their corners. The expected values are worked by hand from the rules.
+#![tactic(auto)]
+
 #[cfg(test)]
 mod cards;
 #[cfg(test)]

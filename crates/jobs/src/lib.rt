@@ -1,4 +1,6 @@
 // What mixjob prints of a deck.
+#![tactic(auto)]
+
 ghost use Rattle.std.specs.Prelude.{◌≡◌, IfOk, Ok};
 ghost use Rattle.jobs.specs.Jobs.{reject_line, report_of};
 ghost use Rattle.mixal.specs.Assembled.{deck_of};

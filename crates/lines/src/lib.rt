@@ -1,4 +1,6 @@
 // The lines of listings and sheets, and a text for the caller's buffer.
+#![tactic(auto)]
+
 mod buffer;
 mod buffers;
 mod texts;

@@ -1,4 +1,6 @@
 // The listing of a deck and the lines of its symbols, as text.
+#![tactic(auto)]
+
 mod buffers;
 mod refusal;
 mod refusals;

@@ -1,4 +1,6 @@
 // The assembler: a deck of cards read one by one, up to END or to the first bad card.
+#![tactic(auto)]
+
 mod assembly;
 mod cards;
 mod cause;

@@ -1,4 +1,6 @@
 // mixjob: reads cards from standard input, punches each again, and prints them.
+#![tactic(auto)]
+
 use std::io::Read;
 
 fn run(rt: &HostRuntime) -> anyhow::Result<()> {

@@ -1,4 +1,6 @@
 // mixlist: reads a deck from standard input, and prints its listing and its symbols, or its rejection.
+#![tactic(auto)]
+
 use std::io::Read;
 
 fn run(rt: &HostRuntime) -> anyhow::Result<()> {

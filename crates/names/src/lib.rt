@@ -1,4 +1,6 @@
 // The operation names of MIXAL, what they stand for, and the times of the operations.
+#![tactic(auto)]
+
 mod kinds;
 mod lookup;
 mod table;

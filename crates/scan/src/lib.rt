@@ -1,4 +1,6 @@
 // A card's text taken apart: its columns, symbols, expressions and the parts of an address.
+#![tactic(auto)]
+
 mod address;
 mod atoms;
 mod columns;

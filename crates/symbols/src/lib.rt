@@ -1,4 +1,6 @@
 // The symbols of a deck by name, and what each means.
+#![tactic(auto)]
+
 mod meaning;
 mod meanings;
 mod symbols;

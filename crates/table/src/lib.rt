@@ -1,4 +1,6 @@
 // Tables kept in the order of their keys, for any kind of key whose order keeps the laws.
+#![tactic(auto)]
+
 mod key;
 mod location;
 mod locations;

@@ -1,5 +1,7 @@
 // The values of expressions: numbers below 2^30 in magnitude, zero being plus, and the six operators on them.
 // Each answers none where the result's magnitude is 2^30 or more, or the divisor is 0.
+#![tactic(auto)]
+
 ghost use Rattle.std.specs.Prelude.{◌≡◌, ◌*◌, ◌/◌, ◌^◌, ◌<◌, pos, ◌+ℤ◌, ◌-ℤ◌, ◌*ℤ◌, IfSome};
 ghost use Rattle.arith.specs.Sums.{sum_sign, sum_size};
 ghost use Rattle.values.specs.Values.{plain, fitted, sum_of, difference_of, times_of, over_of, fraction_of, colon_of};

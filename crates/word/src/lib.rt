@@ -1,4 +1,6 @@
 // The words of MIX: a sign and five bytes, read and stored by fields.
+#![tactic(auto)]
+
 mod field;
 mod fields;
 mod index;
