@@ -7,7 +7,7 @@ use Rattle.copies.proofs.copy_cards.Goals as goal
 pub loop-card-preserved : goal.loop-card-preserved
 loop-card-preserved c =
     let s = c.in-Some.ensures in
-    let b = c.in-ok-bad.ensures in
+    let b = c.in_ok-bad.ensures in
     let n = ap length s.cards in
     let d = ap damaged s.cards in (
       ap (λ (l : List ℕ). l ++ lines (c.loop-card.tally.read + 1) (cards_of c.in-Some.next.now)) b.0

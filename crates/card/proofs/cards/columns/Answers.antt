@@ -9,5 +9,5 @@ use Rattle.card.proofs.cards.columns.Goals as goal
 pub returns : goal.returns
 unfolding padded
 returns c =
-    let e = ap (λ (l : List ℕ). c.copy-from-slice.new.self ++ l) (drop-replicate (length c.args.text.now) 80 32) ∙ ap (λ (l : List ℕ). l ++ replicate (80 - length c.args.text.now) 32) c.copy-from-slice.ensures.after in
+    let e = ap (λ (l : List ℕ). c.copy_from_slice.new.self ++ l) (drop-replicate (length c.args.text.now) 80 32) ∙ ap (λ (l : List ℕ). l ++ replicate (80 - length c.args.text.now) 32) c.copy_from_slice.ensures.after in
     record { text = e; coded = ap all_coded e ∙ padded_coded c.args.text.now; same = ap trimmed e ∙ trim_blanks c.args.text.now (80 - length c.args.text.now) }

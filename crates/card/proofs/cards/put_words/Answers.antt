@@ -7,10 +7,10 @@ use Rattle.card.proofs.cards.put_words.Goals as goal
 
 pub loop-i-preserved : goal.loop-i-preserved
 loop-i-preserved c =
-    let l : length c.copy-from-slice.new.self ≡ 5 = search rules in
-    take-put_mid (5 * c.loop-i.i) (5 * c.loop-i.i + 5 - 5 * c.loop-i.i) c.loop-i.out c.copy-from-slice.new.self (5 * (c.loop-i.i + 1)) (omega arith) (omega arith)
-    ∙ ap (λ (t : List ℕ). t ++ c.copy-from-slice.new.self) c.loop-i.invariant
-    ∙ ap (λ (t : List ℕ). text_of (take c.loop-i.i c.args.words.now) ++ t) (c.copy-from-slice.ensures.after ∙ c.text-of.ensures.text)
+    let l : length c.copy_from_slice.new.self ≡ 5 = search rules in
+    take-put_mid (5 * c.loop-i.i) (5 * c.loop-i.i + 5 - 5 * c.loop-i.i) c.loop-i.out c.copy_from_slice.new.self (5 * (c.loop-i.i + 1)) (omega arith) (omega arith)
+    ∙ ap (λ (t : List ℕ). t ++ c.copy_from_slice.new.self) c.loop-i.invariant
+    ∙ ap (λ (t : List ℕ). text_of (take c.loop-i.i c.args.words.now) ++ t) (c.copy_from_slice.ensures.after ∙ c.text_of.ensures.text)
     ∙ texts_more c.args.words.now c.loop-i.i c.index-words-i.result c.loop-i-test.true c.index-words-i.is
 
 pub returns : goal.returns

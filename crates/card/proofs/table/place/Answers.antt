@@ -5,5 +5,5 @@ use Rattle.card.proofs.table.place.Goals as goal
 
 pub returns : goal.returns
 returns c =
-    let e : c.by-run.result ≡ code_of c.args.character = c.by-run.ensures ∙ run_code_found c.args.character (search rules) in
-    record { value = e; back = stands c.args.character c.by-run.result (sym e); rule = undo }
+    let e : c.by_run.result ≡ code_of c.args.character = c.by_run.ensures ∙ run_code_found c.args.character (search rules) in
+    record { value = e; back = stands c.args.character c.by_run.result (sym e); rule = undo }

@@ -5,18 +5,18 @@ use Rattle.card.proofs.Parts.{ahead, ahead_more, ahead_all, none_cases}
 use Rattle.card.proofs.Codes.{coded, codes_step}
 use Rattle.card.proofs.words.codes_of.Goals as goal
 
-pub returns-in-err-codes : goal.returns-in-err-codes
-returns-in-err-codes c =
+pub returns-in_err-codes : goal.returns-in_err-codes
+returns-in_err-codes c =
     record {
-      value = c.from-residual.ensures ∙ codes_step (take c.loop-i.i c.loop-i.codes) c.args.text c.loop-i.i None (search rules) c.in-err-codes.ensures.value c.loop-i.invariant.1;
-      back = none_cases c.from-residual.result _ c.from-residual.ensures;
+      value = c.from_residual.ensures ∙ codes_step (take c.loop-i.i c.loop-i.codes) c.args.text c.loop-i.i None (search rules) c.in_err-codes.ensures.value c.loop-i.invariant.1;
+      back = none_cases c.from_residual.result _ c.from_residual.ensures;
     }
 
 pub loop-i-preserved : goal.loop-i-preserved
 loop-i-preserved c = (
-  length-set c.loop-i.codes c.loop-i.i c.in-ok-codes.field-0 ∙ c.loop-i.invariant.0,
-  ahead_more c.loop-i.codes c.loop-i.i c.in-ok-codes.field-0 (codes_of (drop (c.loop-i.i + 1) c.args.text)) (omega arith)
-      ∙ codes_step (take c.loop-i.i c.loop-i.codes) c.args.text c.loop-i.i (Some c.in-ok-codes.field-0) (search rules) c.in-ok-codes.ensures.value c.loop-i.invariant.1,
+  length-set c.loop-i.codes c.loop-i.i c.in_ok-codes.field-0 ∙ c.loop-i.invariant.0,
+  ahead_more c.loop-i.codes c.loop-i.i c.in_ok-codes.field-0 (codes_of (drop (c.loop-i.i + 1) c.args.text)) (omega arith)
+      ∙ codes_step (take c.loop-i.i c.loop-i.codes) c.args.text c.loop-i.i (Some c.in_ok-codes.field-0) (search rules) c.in_ok-codes.ensures.value c.loop-i.invariant.1,
 )
 
 pub returns : goal.returns

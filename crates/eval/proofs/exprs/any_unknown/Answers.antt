@@ -12,6 +12,6 @@ loop-rest-preserved c = λ h.
     let r = c.in-Some.ensures.terms in
     let m : is_some (more_of c.in-Some.next.now) ≡ true = sym r.readable ∙ p.0 in (
       m,
-      sym (ap (any_unknown_in es) r.terms_are ∙ unknown_more es c.in-Some.term (more_of c.in-Some.next.now) m ∙ ap (λ (b : Bool). b || any_unknown_in es (more_of c.in-Some.next.now)) (sym c.if-is-unknown.ensures))
+      sym (ap (any_unknown_in es) r.terms_are ∙ unknown_more es c.in-Some.term (more_of c.in-Some.next.now) m ∙ ap (λ (b : Bool). b || any_unknown_in es (more_of c.in-Some.next.now)) (sym c.if-is_unknown.ensures))
           ∙ p.1,
     )

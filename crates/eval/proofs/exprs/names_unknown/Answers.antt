@@ -10,5 +10,5 @@ returns-else-is_unknown c = λ h.
     let es = entries c.args.symbols.now in
     let r = c.in-Some.ensures.terms in
     let m : is_some (more_of c.in-Some.rest.now) ≡ true = sym r.readable ∙ h in
-    c.any-unknown.ensures m
-    ∙ sym (ap (any_unknown_in es) r.terms_are ∙ unknown_more es c.in-Some.term (more_of c.in-Some.rest.now) m ∙ ap (λ (b : Bool). b || any_unknown_in es (more_of c.in-Some.rest.now)) (sym c.if-is-unknown.ensures))
+    c.any_unknown.ensures m
+    ∙ sym (ap (any_unknown_in es) r.terms_are ∙ unknown_more es c.in-Some.term (more_of c.in-Some.rest.now) m ∙ ap (λ (b : Bool). b || any_unknown_in es (more_of c.in-Some.rest.now)) (sym c.if-is_unknown.ensures))

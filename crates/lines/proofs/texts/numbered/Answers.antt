@@ -7,5 +7,5 @@ pub returns : goal.returns
 unfolding four_digits
 returns c =
     quad c.four.result _ (ap length c.four.ensures)
-    ∙ ap (λ (l : List ℕ). l ++ (32 ∷ (c.copy-from-slice.new.self ++ (32 ∷ 32 ∷ [])))) c.four.ensures
-    ∙ ap (λ (l : List ℕ). four_digits c.args.location ++ (32 ∷ (l ++ (32 ∷ 32 ∷ [])))) (c.copy-from-slice.ensures.after ∙ c.digits.ensures)
+    ∙ ap (λ (l : List ℕ). l ++ (32 ∷ (c.copy_from_slice.new.self ++ (32 ∷ 32 ∷ [])))) c.four.ensures
+    ∙ ap (λ (l : List ℕ). four_digits c.args.location ++ (32 ∷ (l ++ (32 ∷ 32 ∷ [])))) (c.copy_from_slice.ensures.after ∙ c.digits.ensures)

@@ -10,8 +10,8 @@ slice-bounds-line-end-2 c = search (rules, length-set, length-append)
 pub returns : goal.returns
 unfolding symbol_line
 returns c =
-    let n : c.copy-from-slice.new.self ≡ map character_of c.args.name = c.copy-from-slice.ensures.after ∙ c.spelled.ensures in
-    let l : length c.copy-from-slice.new.self ≡ 10 = search rules in
-    named c.copy-from-slice.new.self c.copy-from-slice-2.new.self l
-    ∙ ap (λ (xs : List ℕ). 83 ∷ 32 ∷ (xs ++ (32 ∷ (c.copy-from-slice-2.new.self ++ (10 ∷ []))))) n
-    ∙ ap (λ (xs : List ℕ). 83 ∷ 32 ∷ (map character_of c.args.name ++ (32 ∷ (xs ++ (10 ∷ []))))) (c.copy-from-slice-2.ensures.after ∙ c.digits.ensures)
+    let n : c.copy_from_slice.new.self ≡ map character_of c.args.name = c.copy_from_slice.ensures.after ∙ c.spelled.ensures in
+    let l : length c.copy_from_slice.new.self ≡ 10 = search rules in
+    named c.copy_from_slice.new.self c.copy_from_slice-2.new.self l
+    ∙ ap (λ (xs : List ℕ). 83 ∷ 32 ∷ (xs ++ (32 ∷ (c.copy_from_slice-2.new.self ++ (10 ∷ []))))) n
+    ∙ ap (λ (xs : List ℕ). 83 ∷ 32 ∷ (map character_of c.args.name ++ (32 ∷ (xs ++ (10 ∷ []))))) (c.copy_from_slice-2.ensures.after ∙ c.digits.ensures)

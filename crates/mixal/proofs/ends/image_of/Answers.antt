@@ -10,7 +10,7 @@ use Rattle.mixal.proofs.ends.image_of.Goals as goal
 pub loop-line-preserved : goal.loop-line-preserved
 loop-line-preserved c =
     let ps = items c.loop-line.image in
-    let e = c.in-ok-put-placed.ensures in
+    let e = c.in_ok-put_placed.ensures in
     let rest = drop (c.loop-line.line-index + 1) c.args.lines.now in (
       e.order c.loop-line.invariant.0,
       ap (λ (qs : List (Location × Word)). image_from qs rest) (e.pairs c.loop-line.invariant.0)

@@ -11,7 +11,7 @@ loop-draft-preserved c =
     let f = resolved (entries c.args.symbols.now) in
     let e : c.resolve.result ≡ f c.draft-item.result = c.resolve.ensures in
     let m = map_more f c.args.drafts.now c.loop-draft.draft-index c.draft-item.result c.loop-draft-test.true in
-    c.in-ok-push.ensures.items
+    c.in_ok-push.ensures.items
     ∙ ap (λ (l : List Line). l ++ c.resolve.result ∷ []) c.loop-draft.invariant
     ∙ ap (λ (x : Line). map f (take c.loop-draft.draft-index c.args.drafts.now) ++ x ∷ []) (e ∙ ap f c.draft-item.is)
     ∙ sym m
@@ -19,5 +19,5 @@ loop-draft-preserved c =
 pub returns : goal.returns
 returns c =
     let f = resolved (entries c.args.symbols.now) in
-    c.in-ok-push-2.ensures.items
+    c.in_ok-push-2.ensures.items
     ∙ ap (λ (l : List Line). l ++ record { at = None; card = c.args.end } ∷ []) (c.loop-draft.invariant ∙ ap (map f) (take_all c.loop-draft.draft-index c.args.drafts.now c.loop-draft-test.false))

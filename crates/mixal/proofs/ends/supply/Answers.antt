@@ -9,7 +9,7 @@ use Rattle.mixal.proofs.ends.supply.Goals as goal
 pub loop-name-preserved : goal.loop-name-preserved
 loop-name-preserved c =
     let s = state_of c.loop-name.after (entries c.loop-name.symbols) c.args.awaited.now (vec_items c.loop-name.drafts) in
-    let e = c.in-ok-after.ensures in (
+    let e = c.in_ok-after.ensures in (
       omega (arith, e.1),
       ap (supplied c.args.loc (drop (c.loop-name.name-index + 1) c.args.awaited.now)) (e.0 c.args.awaited.now)
           ∙ sym (at_drop_more (λ (ns : List Name). supplied c.args.loc ns s) c.args.awaited.now c.loop-name.name-index _ c.loop-name-test.true)

@@ -14,27 +14,27 @@ returns-in-Some-2 c =
     let s = model_of c.loop-card.assembly in
     let t = model_of c.step.new.self in
     let card = c.in-Some.card.now in
-    let last = c.is-empty.result in
+    let last = c.is_empty.result in
     let P : Option (List ℕ) → Type 0 = λ o. Steps last s card t (Ok o) in
     let R : Result Assembled Rejection → Type 0 = λ v. Answers c.end.result v in
     let e = sym (ap (read_from s) c.in-Some.ensures.cards) ∙ c.loop-card.invariant in
-    subst R e (reads last s t card (cards_of c.in-Some.next.now) c.in-Some-2.columns c.end.result (c.is-empty.ensures ∙ empty_is_last c.in-Some.next.now) (subst P c.in-Some-2.is c.in-ok-columns.ensures) c.end.ensures)
+    subst R e (reads last s t card (cards_of c.in-Some.next.now) c.in-Some-2.columns c.end.result (c.is_empty.ensures ∙ empty_is_last c.in-Some.next.now) (subst P c.in-Some-2.is c.in_ok-columns.ensures) c.end.ensures)
 
 pub loop-card-preserved : goal.loop-card-preserved
 loop-card-preserved c =
     let s = model_of c.loop-card.assembly in
     let t = model_of c.step.new.self in
     let card = c.in-Some.card.now in
-    let P : Option (List ℕ) → Type 0 = λ o. Steps c.is-empty.result s card t (Ok o) in
-    sym (taken c.is-empty.result s t card (cards_of c.in-Some.next.now) (c.is-empty.ensures ∙ empty_is_last c.in-Some.next.now) (subst P c.in-default-2.is c.in-ok-columns.ensures))
+    let P : Option (List ℕ) → Type 0 = λ o. Steps c.is_empty.result s card t (Ok o) in
+    sym (taken c.is_empty.result s t card (cards_of c.in-Some.next.now) (c.is_empty.ensures ∙ empty_is_last c.in-Some.next.now) (subst P c.in_default-2.is c.in_ok-columns.ensures))
     ∙ sym (ap (read_from s) c.in-Some.ensures.cards) ∙ c.loop-card.invariant
 
-pub returns-in-err-columns : goal.returns-in-err-columns
-returns-in-err-columns c =
+pub returns-in_err-columns : goal.returns-in_err-columns
+returns-in_err-columns c =
     let s = model_of c.loop-card.assembly in
     let t = model_of c.step.new.self in
     let card = c.in-Some.card.now in
-    let p = err_from_is_err_and c.from-residual.result c.from-residual.ensures.1 in
+    let p = err_from_is_err_and c.from_residual.result c.from_residual.ensures.1 in
     let e = sym (ap (read_from s) c.in-Some.ensures.cards) ∙ c.loop-card.invariant in
-    let R : Result Assembled Rejection → Type 0 = λ v. Answers (Err c.in-err-columns.field-0.0) v in
-    rw (p.1, p.2) (subst R e (refused c.is-empty.result s t card (cards_of c.in-Some.next.now) c.in-err-columns.field-0.0 (c.is-empty.ensures ∙ empty_is_last c.in-Some.next.now) c.in-err-columns.ensures))
+    let R : Result Assembled Rejection → Type 0 = λ v. Answers (Err c.in_err-columns.field-0.0) v in
+    rw (p.1, p.2) (subst R e (refused c.is_empty.result s t card (cards_of c.in-Some.next.now) c.in_err-columns.field-0.0 (c.is_empty.ensures ∙ empty_is_last c.in-Some.next.now) c.in_err-columns.ensures))

@@ -8,13 +8,13 @@ use Rattle.scan.proofs.atoms.number.Goals as goal
 pub returns-then-not-is_digit : goal.returns-then-not-is_digit
 returns-then-not-is_digit c =
     let m = digits_at c.args.text.now c.loop-b.b-index c.loop-b-test.true in
-    let d = c.if-not-is-digit.ensures in
+    let d = c.if-not-is_digit.ensures in
     grind (arith, nat_tests)
 
 pub loop-b-preserved : goal.loop-b-preserved
 loop-b-preserved c =
     let m = digits_at c.args.text.now c.loop-b.b-index c.loop-b-test.true in
-    let d = c.if-not-is-digit.ensures in
+    let d = c.if-not-is_digit.ensures in
     let n : c.from.result ≤ 9 = grind (arith, nat_tests) in (
       value_bound c.loop-b.b-index c.loop-b.sum c.from.result c.loop-b.invariant.0 n,
       grind (arith, nat_tests),
@@ -25,5 +25,5 @@ pub returns : goal.returns
 returns c =
     let m = at_drop_all all_digits c.args.text.now c.loop-b.b-index c.loop-b-test.false in
     let v = at_drop_all (digits_from c.loop-b.sum) c.args.text.now c.loop-b.b-index c.loop-b-test.false in
-    let e = c.if-is-empty.ensures in
+    let e = c.if-is_empty.ensures in
     grind (arith, nat_tests)

@@ -8,13 +8,13 @@ use Rattle.scan.proofs.atoms.run.Goals as goal
 pub returns-then-not-is_mark : goal.returns-then-not-is_mark
 returns-then-not-is_mark c =
     let m = run_at c.args.text.now c.loop-i.i (search rules) in
-    let d = c.if-not-is-mark.ensures in
+    let d = c.if-not-is_mark.ensures in
     grind (arith, nat_tests)
 
 pub loop-i-preserved : goal.loop-i-preserved
 loop-i-preserved c =
     let m = run_at c.args.text.now c.loop-i.i (search rules) in
-    let d = c.if-not-is-mark.ensures in
+    let d = c.if-not-is_mark.ensures in
     grind (arith, nat_tests)
 
 pub returns : goal.returns

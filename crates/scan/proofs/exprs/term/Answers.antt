@@ -6,9 +6,9 @@ use Rattle.scan.proofs.exprs.term.Goals as goal
 
 pub returns : goal.returns
 returns c =
-    let e = c.in-ok-atom.ensures in
+    let e = c.in_ok-atom.ensures in
     let v = ap (with_atom c.args.op) e in
     record {
       value = v;
-      terms = read _ c.args.text.now (record { op = c.args.op; atom = c.in-ok-atom.atom }) c.in-ok-atom.rest.now (subst (λ (o : Option (Atom × List ℕ)). Under (length c.args.text.now) o) (sym e) (atom_under c.args.text.now)) (ap (on_term more_of) (sym v));
+      terms = read _ c.args.text.now (record { op = c.args.op; atom = c.in_ok-atom.atom }) c.in_ok-atom.rest.now (subst (λ (o : Option (Atom × List ℕ)). Under (length c.args.text.now) o) (sym e) (atom_under c.args.text.now)) (ap (on_term more_of) (sym v));
     }

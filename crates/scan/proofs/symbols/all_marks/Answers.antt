@@ -8,13 +8,13 @@ use Rattle.scan.proofs.symbols.all_marks.Goals as goal
 pub returns-then-not-is_mark : goal.returns-then-not-is_mark
 returns-then-not-is_mark c =
     let m = marks_at c.args.text.now c.loop-b.b-index c.loop-b-test.true in
-    let d = c.if-not-is-mark.ensures in
+    let d = c.if-not-is_mark.ensures in
     grind (arith, nat_tests)
 
 pub loop-b-preserved : goal.loop-b-preserved
 loop-b-preserved c =
     let m = marks_at c.args.text.now c.loop-b.b-index c.loop-b-test.true in
-    let d = c.if-not-is-mark.ensures in
+    let d = c.if-not-is_mark.ensures in
     grind (arith, nat_tests)
 
 pub returns : goal.returns

@@ -8,13 +8,13 @@ use Rattle.scan.proofs.symbols.any_letter.Goals as goal
 pub returns-then-is_letter : goal.returns-then-is_letter
 returns-then-is_letter c =
     let m = letter_at c.args.text.now c.loop-b.b-index c.loop-b-test.true in
-    let l = c.if-is-letter.ensures in
+    let l = c.if-is_letter.ensures in
     grind (arith, nat_tests)
 
 pub loop-b-preserved : goal.loop-b-preserved
 loop-b-preserved c =
     let m = letter_at c.args.text.now c.loop-b.b-index c.loop-b-test.true in
-    let l = c.if-is-letter.ensures in
+    let l = c.if-is_letter.ensures in
     grind (arith, nat_tests)
 
 pub returns : goal.returns

@@ -15,5 +15,5 @@ loop-piece-preserved c = λ h.
     let e : pieces_of c.loop-piece.text.now ≡ both (Some p) (pieces_of c.in-Some-default.rest.now) =
     c.in-Some.ensures.pieces ∙ ap (λ (o : Option (Bor (List ℕ))). both (Some p) (later_of (option_map (λ x. x.now) o))) c.in-Some-default.is
     in
-    let k = undefined_more es p (pieces_of c.in-Some-default.rest.now) (sym c.if-is-undefined.ensures) (ap pieces_readable (sym e) ∙ q.0) in
+    let k = undefined_more es p (pieces_of c.in-Some-default.rest.now) (sym c.if-is_undefined.ensures) (ap pieces_readable (sym e) ∙ q.0) in
     (k.0, k.1 ∙ ap (pieces_undefined es) (sym e) ∙ q.1)

@@ -11,10 +11,10 @@ returns-in-Some c =
 
 pub operate-requires : goal.operate-requires
 operate-requires c =
-    let h = in_range c.args.last (entries c.args.self.now.symbols) c.args.self.now.here c.args.card.now c.args.operation c.in-default.ensures in
+    let h = in_range c.args.last (entries c.args.self.now.symbols) c.args.self.now.here c.args.card.now c.args.operation c.in_default.ensures in
     search rules
 
 pub returns : goal.returns
 returns c =
     late_good c.args.last (model_of c.args.self.now) c.args.card.now c.args.operation c.args.columns c.requires.0 c.requires.1
-    c.in-default.ensures _ c.in-ok-operate.ensures
+    c.in_default.ensures _ c.in_ok-operate.ensures
