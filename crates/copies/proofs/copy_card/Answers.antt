@@ -5,23 +5,23 @@ use Rattle.std.proofs.lemmas.List.{append_assoc}
 use Rattle.copies.proofs.Steps.{punched, spoilt}
 use Rattle.copies.proofs.copy_card.Goals as goal
 
-pub returns-in_ok-push : goal.returns-in_ok-push
-returns-in_ok-push c =
+pub returns-in_ok-push-in-Some : goal.returns-in_ok-push-in-Some
+returns-in_ok-push-in-Some c =
     let k = punched c.args.number (card_of c.args.card.now) c.in-Some.punched c.in-Some.ensures.text in
     let out = vec_items c.args.out.now in (
-      c.in_ok-push.ensures.items
-          ∙ ap (λ (l : List ℕ). l ++ (10 ∷ [])) (c.in_ok-extend_from_slice.ensures.items ∙ ap (λ (l : List ℕ). out ++ l) c.trim.ensures)
+      c.in_ok-push-in-Some.ensures.items
+          ∙ ap (λ (l : List ℕ). l ++ (10 ∷ [])) (c.in_ok-extend_from_slice-in-Some.ensures.items ∙ ap (λ (l : List ℕ). out ++ l) c.trim.ensures)
           ∙ append_assoc out (trimmed c.in-Some.punched) (10 ∷ [])
           ∙ ap (λ (l : List ℕ). out ++ l) k.text,
       k.count,
       omega arith,
     )
 
-pub returns-in_ok-extend_from_slice-2 : goal.returns-in_ok-extend_from_slice-2
-returns-in_ok-extend_from_slice-2 c =
+pub returns-in_ok-extend_from_slice-in-None : goal.returns-in_ok-extend_from_slice-in-None
+returns-in_ok-extend_from_slice-in-None c =
     let k = spoilt c.args.number (card_of c.args.card.now) c.in-None.ensures.text in (
-      c.in_ok-extend_from_slice-2.ensures.items
-          ∙ ap (λ (l : List ℕ). vec_items c.args.out.now ++ l) (c.as_bytes.ensures.value ∙ c.in_ok-line.ensures.ok ∙ k.text),
+      c.in_ok-extend_from_slice-in-None.ensures.items
+          ∙ ap (λ (l : List ℕ). vec_items c.args.out.now ++ l) (c.as_bytes.ensures.value ∙ c.in_ok-line-in-None.ensures.ok ∙ k.text),
       k.count,
       omega arith,
     )

@@ -4,9 +4,6 @@ use Rattle.lines.specs.Lines.{symbol_line}
 use Rattle.lines.proofs.Ends.{named}
 use Rattle.lines.proofs.texts.symbol.Goals as goal
 
-pub slice-bounds-line-end-2 : goal.slice-bounds-line-end-2
-slice-bounds-line-end-2 c = search (rules, length-set, length-append)
-
 pub returns : goal.returns
 unfolding symbol_line
 returns c =
