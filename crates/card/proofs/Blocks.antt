@@ -3,7 +3,7 @@ use Rattle.std.proofs.Common.{◌≡◌, ℕ, zero, suc, ◌+◌, ◌-◌, ◌*�
 use Rattle.std.proofs.lemmas.List.{append-nil, flat_map_more, take_more, length-map, length-take-le, take-append-drop, take_at, drop_at, drop-drop, nil_from_length}
 use Rattle.std.proofs.lemmas.Bool.{le-leb, cond-true}
 use Rattle.std.specs.Option.{option_map}
-use Rattle.std.specs.List.{AllByRecursion as All}
+use Rattle.std.specs.List.{AllByRecursion}
 use Rattle.word.specs.declared.sign.Sign.TheVariants.{Plus}
 use Rattle.word.specs.declared.word.Word.{Word}
 use Rattle.word.specs.Word.{word_from, bytes_of}
@@ -74,7 +74,7 @@ words_back (suc n) bs ws l e = at (text_word (take 5 bs)) (text_words n (drop 5 
         ∙ take-append-drop 5 bs
 
 -- plain words come back from their text
-words_again : (ws : List Word) → All Plain ws → text_words (length ws) (text_of ws) ≡ Some ws
+words_again : (ws : List Word) → AllByRecursion Plain ws → text_words (length ws) (text_of ws) ≡ Some ws
 unfolding text_words
 words_again [] h = refl
 words_again (w ∷ ws) h =
@@ -89,7 +89,7 @@ unfolding padded
 padded_full bs n = ap (λ (k : ℕ). bs ++ replicate k 32) (let e : 80 - length bs ≡ 0 = omega arith in e) ∙ append-nil bs
 
 -- sixteen plain words come back from their card
-pub card_again : (ws : List Word) → length ws ≡ 16 → All Plain ws → card_of (text_of ws) ≡ Some ws
+pub card_again : (ws : List Word) → length ws ≡ 16 → AllByRecursion Plain ws → card_of (text_of ws) ≡ Some ws
 card_again ws n h =
     let l : length (text_of ws) ≡ 80 = omega (arith, length_texts ws) in
     cond-true (leb (length (text_of ws)) 80) (text_words 16 (padded (text_of ws))) None (le-leb (length (text_of ws)) 80 (omega arith))

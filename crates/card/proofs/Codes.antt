@@ -3,7 +3,7 @@ use Rattle.std.proofs.Common.{◌≡◌, ℕ, zero, suc, ◌+◌, ◌-◌, ◌<�
 use Rattle.std.proofs.lemmas.List.{at_drop_more}
 use Rattle.std.proofs.lemmas.Bool.{and_from, lt-ltb}
 use Rattle.std.specs.Option.{option_map}
-use Rattle.std.specs.List.{AllByRecursion as All}
+use Rattle.std.specs.List.{AllByRecursion}
 use Rattle.word.specs.Bytes.{are_bytes}
 use Rattle.card.specs.Table.{characters, character_of, code_of}
 use Rattle.card.specs.Text.{both, codes_of, padded, all_coded}
@@ -38,7 +38,7 @@ pub codes_step : (made bs : List ℕ) (i : ℕ) (o : Option ℕ) → i < length 
 codes_step made bs i o h e f = ap (λ (p : Option ℕ). ahead made (both p (codes_of (drop (i + 1) bs)))) e ∙ sym (ap (ahead made) (at_drop_more codes_of bs i 0 h)) ∙ f
 
 -- codes below 56 come back
-pub codes_again : (cs : List ℕ) → All (λ c. c < 56) cs → codes_of (map character_of cs) ≡ Some cs
+pub codes_again : (cs : List ℕ) → AllByRecursion (λ c. c < 56) cs → codes_of (map character_of cs) ≡ Some cs
 codes_again [] h = refl
 codes_again (c ∷ cs) h =
     ap (λ (o : Option ℕ). both o (codes_of (map character_of cs))) (undo.code_again c h.0)

@@ -2,7 +2,7 @@
 use Rattle.std.proofs.Common.{◌≡◌, ℕ, suc, ◌<◌, Bool, true, false, cond, eqb, List, [], ◌∷◌, length, take, drop, MatchBool, sym, refl, ap, ◌∙◌, subst, arith, length-drop}
 use Rattle.std.proofs.lemmas.List.{nil_from_length}
 use Rattle.std.proofs.lemmas.Bool.{eqb-true, eqb-false}
-use Rattle.std.specs.List.{AllByRecursion as All}
+use Rattle.std.specs.List.{AllByRecursion}
 use Rattle.card.specs.Lines.{up_to, line_of, rest_of, grown, cards_of, Split}
 
 -- the first byte goes to the first card
@@ -23,11 +23,11 @@ cards_first [] h = absurd (omega arith)
 cards_first (b ∷ bs) h = cards_step b bs
 
 -- the first line has no byte 10
-line_whole : (bs : List ℕ) → All (λ b. b ≡ 10 → ⊥) (line_of bs)
+line_whole : (bs : List ℕ) → AllByRecursion (λ b. b ≡ 10 → ⊥) (line_of bs)
 line_whole [] = tt
 line_whole (b ∷ bs) = at (eqb b 10) refl (line_whole bs)
   where
-    at : (t : Bool) → eqb b 10 ≡ t → All (λ b. b ≡ 10 → ⊥) (line_of bs) → All (λ b. b ≡ 10 → ⊥) (take (cond t 0 (suc (up_to 10 bs))) (b ∷ bs))
+    at : (t : Bool) → eqb b 10 ≡ t → AllByRecursion (λ b. b ≡ 10 → ⊥) (line_of bs) → AllByRecursion (λ b. b ≡ 10 → ⊥) (take (cond t 0 (suc (up_to 10 bs))) (b ∷ bs))
     at true e h = tt
     at false e h = (eqb-false b 10 e, h)
 
@@ -38,7 +38,7 @@ split bs c ds h p q =
       after = q;
       cards = cards_first bs h ∙ ap (λ (l : List ℕ). l ∷ cards_of (rest_of bs)) (sym p) ∙ ap (λ (l : List ℕ). c ∷ cards_of l) (sym q);
       shorter = omega (arith, ap length q ∙ length-drop (suc (up_to 10 bs)) bs);
-      whole = subst (λ (l : List ℕ). All (λ b. b ≡ 10 → ⊥) l) (sym p) (line_whole bs);
+      whole = subst (λ (l : List ℕ). AllByRecursion (λ b. b ≡ 10 → ⊥) l) (sym p) (line_whole bs);
     }
 
 -- only the empty text has no cards

@@ -1,6 +1,6 @@
 -- Text as cards: the lines that byte 10 ends, and blanks at their ends.
 use Rattle.std.specs.Prelude.{◌≡◌, ℕ, suc, ◌<◌, cond, ◌&&◌, List, [], ◌∷◌, length, take, drop, ◌==◌, ◌≢◌}
-use Rattle.std.specs.List.{AllByRecursion as All}
+use Rattle.std.specs.List.{AllByRecursion}
 
 -- a text without the blanks at its end
 abbrev pub trimmed : List ℕ → List ℕ
@@ -40,4 +40,4 @@ pub record Split (bs c ds : List ℕ) : Type 0 where
   -- the text gets shorter
   pub shorter : length ds < length bs
   -- no card holds a byte 10
-  pub whole : All (λ b. b ≢ 10) c
+  pub whole : AllByRecursion (λ b. b ≢ 10) c

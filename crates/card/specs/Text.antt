@@ -1,7 +1,7 @@
 -- Words as five characters, and cards as sixteen words.
 use Rattle.std.specs.Prelude.{◌≡◌, ℕ, zero, suc, ◌-◌, ◌<◌, Bool, true, cond, ◌&&◌, List, [], ◌∷◌, ◌++◌, map, length, take, drop, replicate, is_some, Some, None, Option, nat_le}
 use Rattle.std.specs.Option.{option_map}
-use Rattle.std.specs.List.{flat_map, AllByRecursion as All}
+use Rattle.std.specs.List.{flat_map, AllByRecursion}
 use Rattle.word.specs.declared.sign.Sign.TheVariants.{Plus}
 use Rattle.word.specs.declared.word.Word.{Word}
 use Rattle.word.specs.Word.{word_from, bytes_of}
@@ -55,4 +55,4 @@ card_of bs = cond (nat_le (length bs) 80) (text_words 16 (padded bs)) None
 -- a word that text can hold: plus, with bytes up to 55
 pub record Plain (w : Word) : Type 0 where
   pub plus : w.sign ≡ Plus
-  pub bytes : All (λ b. b < 56) (bytes_of w)
+  pub bytes : AllByRecursion (λ b. b < 56) (bytes_of w)

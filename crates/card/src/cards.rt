@@ -1,6 +1,6 @@
 ghost use Rattle.std.specs.Prelude.{◌≡◌, ◌*◌, ◌≤◌, length, is_some, IfSome, Some};
 ghost use Rattle.std.specs.Option.{option_map};
-ghost use Rattle.std.specs.List.{AllByRecursion as All};
+ghost use Rattle.std.specs.List.{AllByRecursion};
 ghost use Rattle.card.specs.Lines.{trimmed};
 ghost use Rattle.card.specs.Text.{text_words, text_of, padded, all_coded, sound, card_of, Plain};
 
@@ -24,7 +24,7 @@ pub fn read_card(text: &[u8]) -> Option<[Word; 16]>
 // The text that sixteen words punch.
 pub fn card_text(words: &[Word; 16]) -> [u8; 80]
     ensures text { result ≡ text_of words.now }
-    ensures back { All Plain words.now → card_of result ≡ Some words.now }
+    ensures back { AllByRecursion Plain words.now → card_of result ≡ Some words.now }
 {
     let mut card = [b' '; 80];
     put_words(words, &mut card);
@@ -90,7 +90,7 @@ fn words_in(columns: &[u8; 80]) -> Option<[Word; 16]>
 fn put_words(words: &[Word], out: &mut [u8])
     requires { length out.old ≡ 5 * length words.now }
     ensures text { out.new ≡ text_of words.now }
-    ensures back { length words.now ≡ 16 → All Plain words.now → card_of out.new ≡ Some words.now }
+    ensures back { length words.now ≡ 16 → AllByRecursion Plain words.now → card_of out.new ≡ Some words.now }
 {
     for (i, word) in words.iter().enumerate() {
         out[5 * i..5 * i + 5].copy_from_slice(&text_of(*word));

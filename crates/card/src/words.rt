@@ -1,5 +1,5 @@
 ghost use Rattle.std.specs.Prelude.{◌≡◌, ◌<◌, true, map, IfSome, Some};
-ghost use Rattle.std.specs.List.{AllByRecursion as All};
+ghost use Rattle.std.specs.List.{AllByRecursion};
 ghost use Rattle.word.specs.Bytes.{are_bytes};
 ghost use Rattle.card.specs.Table.{character_of};
 ghost use Rattle.card.specs.Text.{codes_of, text_word, word_text, Plain};
@@ -39,7 +39,7 @@ fn codes_of(text: [u8; 5]) -> Option<[u8; 5]>
 // The characters of five bytes.
 fn spelled(bytes: [u8; 5]) -> [u8; 5]
     ensures text { result ≡ map character_of bytes }
-    ensures back { All (λ b. b < 56) bytes → codes_of result ≡ Some bytes }
+    ensures back { AllByRecursion (λ b. b < 56) bytes → codes_of result ≡ Some bytes }
 {
     let [a, b, c, d, e] = bytes;
     [

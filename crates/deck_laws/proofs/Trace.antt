@@ -12,22 +12,22 @@ use Rattle.names.specs.declared.kinds.Operation.{Operation}
 use Rattle.scan.specs.Columns.{is_remark, op_of}
 use Rattle.std.proofs.lemmas.List.{length_push}
 use Rattle.std.proofs.lemmas.Bool.{both_ways}
-use Rattle.std.specs.List.{AllByRecursion as All}
+use Rattle.std.specs.List.{AllByRecursion}
 use Rattle.deck_laws.specs.Reading.{Reads}
 
 pub never : {A : Type 0} (x : A) → Some x ≡ None → ⊥
 never x e = let z : ◌≡◌ {A = ℕ} 0 1 = cc in omega arith
 
 -- where no cause is found, none holds, and the other way round
-none_holds : (xs : List Cause) (last : Bool) (s : State) (c : List ℕ) → first_of xs last s c ≡ None → All (λ x. holds last x s c ≡ false) xs
+none_holds : (xs : List Cause) (last : Bool) (s : State) (c : List ℕ) → first_of xs last s c ≡ None → AllByRecursion (λ x. holds last x s c ≡ false) xs
 none_holds [] last s c e = tt
 none_holds (x ∷ xs) last s c e = at (holds last x s c) refl e (none_holds xs last s c)
   where
-    at : (b : Bool) → holds last x s c ≡ b → cond b (Some x) (first_of xs last s c) ≡ None → (first_of xs last s c ≡ None → All (λ y. holds last y s c ≡ false) xs) → All (λ y. holds last y s c ≡ false) (x ∷ xs)
+    at : (b : Bool) → holds last x s c ≡ b → cond b (Some x) (first_of xs last s c) ≡ None → (first_of xs last s c ≡ None → AllByRecursion (λ y. holds last y s c ≡ false) xs) → AllByRecursion (λ y. holds last y s c ≡ false) (x ∷ xs)
     at true h f rec = absurd (never x f)
     at false h f rec = (h, rec f)
 
-none_found : (xs : List Cause) (last : Bool) (s : State) (c : List ℕ) → All (λ x. holds last x s c ≡ false) xs → first_of xs last s c ≡ None
+none_found : (xs : List Cause) (last : Bool) (s : State) (c : List ℕ) → AllByRecursion (λ x. holds last x s c ≡ false) xs → first_of xs last s c ≡ None
 none_found [] last s c a = refl
 none_found (x ∷ xs) last s c a = ap (λ (b : Bool). cond b (Some x) (first_of xs last s c)) a.0 ∙ none_found xs last s c a.1
 

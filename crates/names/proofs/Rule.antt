@@ -1,5 +1,5 @@
 -- The rules of the table, each by one test of all of its lines.
-use Rattle.std.proofs.Common.{◌≡◌, ℕ, ◌+◌, ◌-◌, Bool, true, false, cond, ◌&&◌, ◌||◌, eqb, ltb, leb, List, [], ◌∷◌, ◌++◌, length, get_or, replicate, Some, None, Decides, Option, sym, refl, ◌∙◌, arith}
+use Rattle.std.proofs.Common.{◌≡◌, ℕ, ◌-◌, Bool, true, false, cond, ◌&&◌, ◌||◌, eqb, ltb, leb, List, [], ◌∷◌, ◌++◌, length, get_or, replicate, Some, None, Decides, Option, sym, refl, ◌∙◌, arith}
 use Rattle.std.proofs.lemmas.Slice.Eq.{bytes_eq-Decides}
 use Rattle.std.proofs.lemmas.Bool.{and_parts, or_left, or_right, both_ways, leb-true}
 use Rattle.std.proofs.lemmas.Bool.Decides.{nat_tests}
@@ -8,7 +8,7 @@ use Rattle.std.specs.Str.{bytes_eq}
 use Rattle.names.specs.declared.kinds.Instruction.{Instruction}
 use Rattle.names.specs.declared.kinds.Operation.{Operation}
 use Rattle.names.specs.declared.kinds.Operation.TheVariants.{Machine, Equ, Orig, Con, Alf, End}
-use Rattle.names.specs.Names.{Line, table, first, called, instruction_of, coded, known, missing_field, lists_field}
+use Rattle.names.specs.Names.{Line, table, called, instruction_of, coded, known, missing_field, lists_field}
 use Rattle.names.specs.Order.{ordered}
 use Rattle.names.specs.Laws.{Stands, Fit, Mark, Spelled}
 use Rattle.names.proofs.Keys.{Columns}

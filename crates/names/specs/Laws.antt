@@ -1,6 +1,6 @@
 -- What holds of the whole table.
 use Rattle.std.specs.Prelude.{◌≡◌, ℕ, ◌-◌, ◌<◌, ◌≤◌, true, false, ◌⊎◌, List, [], ◌∷◌, ◌++◌, length, replicate, Some, None, Option}
-use Rattle.std.specs.List.{AllByRecursion as All}
+use Rattle.std.specs.List.{AllByRecursion}
 use Rattle.names.specs.declared.kinds.Instruction.{Instruction}
 use Rattle.names.specs.declared.kinds.Operation.{Operation}
 use Rattle.names.specs.declared.kinds.Operation.TheVariants.{Machine}
@@ -21,7 +21,7 @@ pub record Spelled (w : List ℕ) : Type 0 where
   pub marks : List ℕ
   pub some : 1 ≤ length marks
   pub few : length marks ≤ 4
-  pub plain : All Mark marks
+  pub plain : AllByRecursion Mark marks
   pub blanks : w ≡ marks ++ replicate (4 - length marks) 32
 
 pub record NameLaws : Type 0 where

@@ -1,7 +1,7 @@
 -- The parts of an address: pieces between commas, and fields in round brackets.
 use Rattle.std.specs.Prelude.{◌≡◌, ℕ, cond, List, [], ◌∷◌, ◌++◌, length, take, Some, None, Option, ◌==◌, ◌≢◌, slice_index}
 use Rattle.std.specs.Option.{option_map}
-use Rattle.std.specs.List.{AllByRecursion as All}
+use Rattle.std.specs.List.{AllByRecursion}
 use Rattle.card.specs.Lines.{grown}
 use Rattle.card.specs.Text.{both}
 use Rattle.scan.specs.Cuts.{before, onward}
@@ -42,7 +42,7 @@ bracket_text (Some f) = 40 ∷ (f ++ 41 ∷ [])
 
 -- no byte of a text is x
 abbrev pub Lacks : ℕ → List ℕ → Type 0
-Lacks x bs = All (λ b. b ≢ x) bs
+Lacks x bs = AllByRecursion (λ b. b ≢ x) bs
 
 -- parts that are written out are found again
 abbrev pub Again : Type 0

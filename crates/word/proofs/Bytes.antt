@@ -1,5 +1,5 @@
 -- Lists of bytes and the numbers that they write.
-use Rattle.std.proofs.Common.{◌≡◌, ℕ, zero, suc, ◌+◌, ◌-◌, ◌*◌, ◌/◌, ◌%◌, ◌^◌, ◌<◌, ◌≤◌, Bool, true, false, ◌&&◌, ltb, List, [], ◌∷◌, ◌++◌, length, get_or, take, drop, replicate, sym, refl, ap, ◌∙◌, add-zero, mul_assoc, add-mul, suc-add, pow-suc, zero-add, arith, length-append, length-drop}
+use Rattle.std.proofs.Common.{◌≡◌, ℕ, zero, suc, ◌+◌, ◌-◌, ◌*◌, ◌/◌, ◌%◌, ◌^◌, ◌<◌, true, ◌&&◌, ltb, List, [], ◌∷◌, ◌++◌, length, get_or, take, drop, replicate, sym, refl, ap, ◌∙◌, add-zero, mul_assoc, add-mul, suc-add, pow-suc, zero-add, arith, length-append, length-drop}
 use native.Mathlib.Nat.{one-le-pow, mod-one, div-div-eq-div-mul}
 use lib.Arith.{digits_lt, digits_div, digits_mod, mod-mul}
 use lib.ListN.{length-replicate}

@@ -1,7 +1,6 @@
 -- Fields: which bytes they name, how they are read and how they are stored.
 use Rattle.std.specs.Prelude.{◌≡◌, ℕ, ◌-◌, ◌/◌, ◌%◌, Bool, cond, ◌&&◌, List, ◌++◌, take, drop, replicate, ◌==◌, nat_le}
 use Rattle.word.specs.declared.field.Field.{Field}
-use Rattle.word.specs.declared.sign.Sign.{Sign}
 use Rattle.word.specs.declared.sign.Sign.TheVariants.{Plus}
 use Rattle.word.specs.declared.word.Word.{Word}
 use Rattle.word.specs.Word.{word_from, bytes_of}

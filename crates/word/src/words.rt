@@ -1,10 +1,9 @@
 ghost use Rattle.std.specs.Prelude.{◌≡◌, ◌%◌, ◌^◌, true, pos, ◌-ℤ◌, IfSome, Decides};
 ghost use Rattle.word.specs.Bytes.{are_bytes, packed, unpacked};
 ghost use Rattle.word.specs.Sign.{opposite};
-ghost use Rattle.word.specs.Word.{word_of, made_from, word_from, bytes_of, value, negative};
+ghost use Rattle.word.specs.Word.{word_of, made_from, word_from, bytes_of, value, negative, same_word};
 ghost use Rattle.std.specs.Cmp.Rules.{comparing};
-ghost use Rattle.std.proofs.Common.{rules, arith};
-ghost use Rattle.std.specs.Cmp as Keys;
+ghost use Rattle.std.proofs.Common.{rules};
 
 use crate::sign::Sign;
 use crate::word::Word;
@@ -59,21 +58,25 @@ impl Word {
 
 // Two words are equal where sign and magnitude are: +0 and -0 differ.
 impl PartialEq for Word {
-    ghost equals = { λ a b r. Decides r (a ≡ b) };
+    ghost eq = { same_word };
 
-    ghost laws = { Keys.partial_equiv_from_equiv (first_of (Prim.search (comparing, rules), Prim.grind (arith, Self.row.coded.inj))) };
+    ghost laws = { Prim.search (comparing, rules) };
 
-    fn eq(&self, other: &Word) -> bool {
+    fn eq(&self, other: &Word) -> bool
+        ensures eq { result ≡ same_word self.now other.now }
+        ensures same { Decides result (self.now ≡ other.now) }
+    {
         is_same(*self, *other)
     }
 }
 
 impl Eq for Word {
-    ghost laws = { first_of (Prim.search (comparing, rules), Prim.grind (arith, Self.row.coded.inj)) };
+    ghost laws = { Prim.search (comparing, rules) };
 }
 
 fn is_same(a: Word, b: Word) -> bool
-    ensures { Decides result (a ≡ b) }
+    ensures eq { result ≡ same_word a b }
+    ensures same { Decides result (a ≡ b) }
 {
     a.magnitude == b.magnitude && a.sign == b.sign
 }

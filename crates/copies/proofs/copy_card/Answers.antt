@@ -17,8 +17,8 @@ returns-in-ok-push c =
       omega arith,
     )
 
-pub returns-in-ok-extend-from-slice-2 : goal.returns-in-ok-extend-from-slice-2
-returns-in-ok-extend-from-slice-2 c =
+pub returns-in-ok-extend_from_slice-2 : goal.returns-in-ok-extend_from_slice-2
+returns-in-ok-extend_from_slice-2 c =
     let k = spoilt c.args.number (card_of c.args.card.now) c.in-None.ensures.text in (
       c.in-ok-extend-from-slice-2.ensures.items
           ∙ ap (λ (l : List ℕ). vec_items c.args.out.now ++ l) (c.as-bytes.ensures.value ∙ c.in-ok-line.ensures.ok ∙ k.text),

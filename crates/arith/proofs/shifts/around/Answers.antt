@@ -17,11 +17,11 @@ small c =
     let bs = unpacked 10 c.args.number in
     fits 10 c.args.number c.requires.0 (turned c.args.count bs) (turned_length c.args.count bs) (turned_bytes c.args.count bs (bytes_unpacked 10 c.args.number)) (omega arith)
 
-pub overflow-mul-result : goal.overflow-mul-result
-overflow-mul-result c = omega (arith, worked c, small c)
+pub overflow_mul-result : goal.overflow_mul-result
+overflow_mul-result c = omega (arith, worked c, small c)
 
-pub overflow-add-result : goal.overflow-add-result
-overflow-add-result c = omega (arith, worked c, small c)
+pub overflow_add-result : goal.overflow_add-result
+overflow_add-result c = omega (arith, worked c, small c)
 
 pub returns : goal.returns
 returns c =

@@ -12,8 +12,8 @@ worked c =
     (c.power.ensures.exact (omega arith) ∙ ap (λ (n : ℕ). 64 ^ n) (omega arith))
     (c.power-2.ensures.exact (omega arith) ∙ ap (λ (n : ℕ). 64 ^ n) c.min-moved.ensures)
 
-pub overflow-mul-result : goal.overflow-mul-result
-overflow-mul-result c =
+pub overflow_mul-result : goal.overflow_mul-result
+overflow_mul-result c =
     let bs = unpacked c.args.length c.args.number in
     let k = fits c.args.length c.args.number c.requires.1 (shifted_left c.args.count bs) (left_length c.args.count bs) (left_bytes c.args.count bs (bytes_unpacked c.args.length c.args.number)) c.requires.0 in
     omega (arith, worked c)

@@ -5,8 +5,8 @@ use Rattle.symbols.specs.Symbols.{entries}
 use Rattle.eval.proofs.Steps.{unknown_more}
 use Rattle.eval.proofs.exprs.names_unknown.Goals as goal
 
-pub returns-else-is-unknown : goal.returns-else-is-unknown
-returns-else-is-unknown c = λ h.
+pub returns-else-is_unknown : goal.returns-else-is_unknown
+returns-else-is_unknown c = λ h.
     let es = entries c.args.symbols.now in
     let r = c.in-Some.ensures.terms in
     let m : is_some (more_of c.in-Some.rest.now) ≡ true = sym r.readable ∙ h in

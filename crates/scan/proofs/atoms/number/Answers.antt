@@ -5,8 +5,8 @@ use Rattle.scan.specs.Atoms.{all_digits, digits_from}
 use Rattle.scan.proofs.Digits.{digits_at, value_at, value_bound}
 use Rattle.scan.proofs.atoms.number.Goals as goal
 
-pub returns-then-not-is-digit : goal.returns-then-not-is-digit
-returns-then-not-is-digit c =
+pub returns-then-not-is_digit : goal.returns-then-not-is_digit
+returns-then-not-is_digit c =
     let m = digits_at c.args.text.now c.loop-b.b-index c.loop-b-test.true in
     let d = c.if-not-is-digit.ensures in
     grind (arith, nat_tests)

@@ -5,8 +5,8 @@ use Rattle.scan.specs.Atoms.{run_of}
 use Rattle.scan.proofs.Digits.{run_at}
 use Rattle.scan.proofs.atoms.run.Goals as goal
 
-pub returns-then-not-is-mark : goal.returns-then-not-is-mark
-returns-then-not-is-mark c =
+pub returns-then-not-is_mark : goal.returns-then-not-is_mark
+returns-then-not-is_mark c =
     let m = run_at c.args.text.now c.loop-i.i (search rules) in
     let d = c.if-not-is-mark.ensures in
     grind (arith, nat_tests)

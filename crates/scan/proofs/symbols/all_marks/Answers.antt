@@ -5,8 +5,8 @@ use Rattle.scan.specs.Symbols.{all_marks}
 use Rattle.scan.proofs.Marks.{marks_at}
 use Rattle.scan.proofs.symbols.all_marks.Goals as goal
 
-pub returns-then-not-is-mark : goal.returns-then-not-is-mark
-returns-then-not-is-mark c =
+pub returns-then-not-is_mark : goal.returns-then-not-is_mark
+returns-then-not-is_mark c =
     let m = marks_at c.args.text.now c.loop-b.b-index c.loop-b-test.true in
     let d = c.if-not-is-mark.ensures in
     grind (arith, nat_tests)

@@ -5,8 +5,8 @@ use Rattle.scan.specs.Symbols.{any_letter}
 use Rattle.scan.proofs.Marks.{letter_at}
 use Rattle.scan.proofs.symbols.any_letter.Goals as goal
 
-pub returns-then-is-letter : goal.returns-then-is-letter
-returns-then-is-letter c =
+pub returns-then-is_letter : goal.returns-then-is_letter
+returns-then-is_letter c =
     let m = letter_at c.args.text.now c.loop-b.b-index c.loop-b-test.true in
     let l = c.if-is-letter.ensures in
     grind (arith, nat_tests)

@@ -6,11 +6,11 @@ use Rattle.word.proofs.Cuts.{read_worked, read_length, read_are_bytes}
 use Rattle.word.proofs.Bytes.{unpacked_at}
 use Rattle.word.proofs.fields.cut.Goals as goal
 
-pub nonzero-div-shifted : goal.nonzero-div-shifted
-nonzero-div-shifted c = c.power.ensures.positive
+pub nonzero_div-shifted : goal.nonzero_div-shifted
+nonzero_div-shifted c = c.power.ensures.positive
 
-pub nonzero-rem-result : goal.nonzero-rem-result
-nonzero-rem-result c = c.power-2.ensures.positive
+pub nonzero_rem-result : goal.nonzero_rem-result
+nonzero_rem-result c = c.power-2.ensures.positive
 
 pub returns : goal.returns
 returns c =

@@ -1,7 +1,6 @@
-use Rattle.std.proofs.Common.{◌≡◌, ℕ, ◌-◌, ◌^◌, List, sym, ap, ◌∙◌, subst, arith}
-use Rattle.word.specs.Field.{Stored, stored_bytes, before, width}
+use Rattle.std.proofs.Common.{ℕ, ◌^◌, sym, ap, ◌∙◌, subst, arith}
+use Rattle.word.specs.Field.{Stored, stored_bytes}
 use Rattle.word.specs.Bytes.{unpacked}
-use Rattle.word.specs.Word.{bytes_of}
 use Rattle.word.proofs.Cuts.{Spliced, stored_worked, stored_length, stored_are_bytes, stored_law}
 use Rattle.word.proofs.Bytes.{unpacked_at}
 use Rattle.word.proofs.fields.splice.Goals as goal
@@ -17,23 +16,23 @@ known c =
     (c.power-low.ensures.exact (omega arith) ∙ ap (λ (n : ℕ). 64 ^ n) c.from-3.ensures)
     c.args.register.small c.args.word.small
 
-pub nonzero-div-result : goal.nonzero-div-result
-nonzero-div-result c = c.power-high.ensures.positive
+pub nonzero_div-result : goal.nonzero_div-result
+nonzero_div-result c = c.power-high.ensures.positive
 
-pub nonzero-rem-result : goal.nonzero-rem-result
-nonzero-rem-result c = c.power-span.ensures.positive
+pub nonzero_rem-result : goal.nonzero_rem-result
+nonzero_rem-result c = c.power-span.ensures.positive
 
-pub nonzero-rem-result-2 : goal.nonzero-rem-result-2
-nonzero-rem-result-2 c = c.power-low.ensures.positive
+pub nonzero_rem-result-2 : goal.nonzero_rem-result-2
+nonzero_rem-result-2 c = c.power-low.ensures.positive
 
-pub overflow-mul-result-2 : goal.overflow-mul-result-2
-overflow-mul-result-2 c = let k = known c in omega arith
+pub overflow_mul-result-2 : goal.overflow_mul-result-2
+overflow_mul-result-2 c = let k = known c in omega arith
 
-pub overflow-add-result : goal.overflow-add-result
-overflow-add-result c = let k = known c in omega arith
+pub overflow_add-result : goal.overflow_add-result
+overflow_add-result c = let k = known c in omega arith
 
-pub overflow-add-result-2 : goal.overflow-add-result-2
-overflow-add-result-2 c = let k = known c in omega arith
+pub overflow_add-result-2 : goal.overflow_add-result-2
+overflow_add-result-2 c = let k = known c in omega arith
 
 pub returns : goal.returns
 returns c =

@@ -1,4 +1,4 @@
-use Rattle.std.proofs.Common.{sym, refl, ap, rules}
+use Rattle.std.proofs.Common.{sym, refl}
 use Rattle.word.specs.Word.{word_of}
 use Rattle.word.proofs.Same.{word_same, word_of_sign, word_of_magnitude}
 use Rattle.word.proofs.Bytes.{unpacked_rest}
