@@ -1,5 +1,5 @@
 -- The laws of the order of each kind of key.
-use Rattle.std.proofs.Common.{true, refl, arith}
+use Rattle.std.proofs.Common.{refl, arith}
 use Rattle.std.proofs.lemmas.Bool.Decides.{nat_tests}
 use Rattle.table.specs.Keys.{location_before, location_same, location_after, name_before, name_same, name_after}
 use Rattle.table.specs.Order.{Order}

@@ -34,11 +34,14 @@ impl Key for Name {
 
 // Names that are the same are equal, code by code.
 impl PartialEq for Name {
-    ghost equals = { λ a b r. (r ≡ name_same a b) × Decides r (a ≡ b) };
+    ghost eq = { name_same };
 
     ghost laws = { Keys.partial_equiv_from_equiv (Prim.search (comparing, rules)) };
 
-    fn eq(&self, other: &Name) -> bool {
+    fn eq(&self, other: &Name) -> bool
+        ensures test { result ≡ name_same self.now other.now }
+        ensures names { Decides result (self.now ≡ other.now) }
+    {
         equal(*self, *other)
     }
 }
