@@ -12,8 +12,8 @@ loop-piece-preserved c = λ h.
     let es = entries c.args.symbols.now in
     let q = c.loop-piece.invariant h in
     let p : List ℕ × Option (List ℕ) = (c.in-Some.piece.value.now, option_map (λ x. x.now) c.in-Some.piece.field) in
-    let e : pieces_of c.loop-piece.text.now ≡ both (Some p) (pieces_of c.in-Some-default.rest.now) =
-    c.in-Some.ensures.pieces ∙ ap (λ (o : Option (Bor (List ℕ))). both (Some p) (later_of (option_map (λ x. x.now) o))) c.in-Some-default.is
+    let e : pieces_of c.loop-piece.text.now ≡ both (Some p) (pieces_of c.in-Some-rest.rest.now) =
+    c.in-Some.ensures.pieces ∙ ap (λ (o : Option (Bor (List ℕ))). both (Some p) (later_of (option_map (λ x. x.now) o))) c.in-Some-rest.is
     in
-    let k = undefined_more es p (pieces_of c.in-Some-default.rest.now) (sym c.if-is_undefined.ensures) (ap pieces_readable (sym e) ∙ q.0) in
+    let k = undefined_more es p (pieces_of c.in-Some-rest.rest.now) (sym c.if-is_undefined.ensures) (ap pieces_readable (sym e) ∙ q.0) in
     (k.0, k.1 ∙ ap (pieces_undefined es) (sym e) ∙ q.1)
