@@ -97,7 +97,7 @@ fn address(symbols: &Symbols, name: Name, word: Word) -> Word
 
 // What a draft comes to, with its location.
 fn place(symbols: &Symbols, made: Made) -> Option<(u16, Word)>
-    ensures { result ≡ placed (entries symbols.now) IfOk }
+    ensures { result ≡ placed (entries symbols.now) made }
 {
     match made {
         Made::Nothing => None,
