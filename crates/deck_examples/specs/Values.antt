@@ -2,7 +2,7 @@
 use Rattle.std.specs.Prelude.{[], ◌∷◌, Some}
 use Rattle.word.specs.Word.{word_of, word_from}
 use Rattle.word.specs.declared.sign.Sign.TheVariants.{Plus, Minus}
-use Rattle.deck_examples.specs.declared.table.WorkedValues.{WorkedValues}
+use Rattle.deck_examples.specs.declared.worked.WorkedValues.{WorkedValues}
 
 unfoldable pub table : WorkedValues
 table =

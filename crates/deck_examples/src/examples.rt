@@ -1,7 +1,7 @@
 ghost use Rattle.std.specs.Prelude.{◌≡◌};
 ghost use Rattle.deck_examples.specs.Values.{table};
 
-use crate::table::WorkedValues;
+use crate::worked::WorkedValues;
 use eval::value;
 use std::alloc::Global;
 use symbols::Symbols;

@@ -2,7 +2,7 @@
 #![tactic(auto)]
 
 mod examples;
-mod table;
+mod worked;
 
 pub use examples::worked_values;
-pub use table::WorkedValues;
+pub use worked::WorkedValues;

@@ -7,17 +7,17 @@ use scan::{
 fn the_columns_of_a_card(rt: HostRuntime) {
     assert!(rt; is_remark(b"* HELLO"));
     assert!(rt; !is_remark(b""));
-    assert!(rt; loc_text(b"LOOP       LDA  5") == b"LOOP");
-    assert!(rt; loc_text(b"AB") == b"AB");
+    assert!(rt; loc_text(b"LOOP       LDA  5") == b"LOOP".as_slice());
+    assert!(rt; loc_text(b"AB") == b"AB".as_slice());
     assert!(rt; !gap_filled(b"LOOP       LDA  5"));
     assert!(rt; gap_filled(b"LOOP      XLDA  5"));
     assert!(rt; gap_filled(b"LOOP       LDA X5"));
     assert!(rt; op_text(b"LOOP       LDA  5") == *b"LDA ");
     assert!(rt; op_text(b"LOOP       ALF") == *b"ALF ");
     assert!(rt; alf_text(b"LOOP       ALF  AB CD EF") == *b"AB CD");
-    assert!(rt; address_text(b"LOOP       LDA  5,1 GO") == b"5,1");
-    assert!(rt; address_text(b"LOOP       LDA   5,1 GO") == b"");
-    assert!(rt; address_text(b"LOOP") == b"");
+    assert!(rt; address_text(b"LOOP       LDA  5,1 GO") == b"5,1".as_slice());
+    assert!(rt; address_text(b"LOOP       LDA   5,1 GO") == b"".as_slice());
+    assert!(rt; address_text(b"LOOP") == b"".as_slice());
 }
 
 #[test]

@@ -24,7 +24,7 @@ fn lines_lose_the_blanks_at_their_end(rt: HostRuntime) -> Result<(), Fail> {
     list_line(&mut out, None, b"  ")?;
     let wanted =
         b"0000 + 01 36 00 16 36  START      IN   100(16)\n                       * REMARK\n3999 + 01 36 00 16 36\n\n";
-    assert!(rt; out.as_slice() == wanted);
+    assert!(rt; out.as_slice() == wanted.as_slice());
     Ok(())
 }
 

@@ -86,7 +86,7 @@ fn a_byte_without_code_damages_a_card(rt: HostRuntime) {
 fn a_card_reproduced_is_the_same(rt: HostRuntime) -> Result<(), Fail> {
     match reproduce(b"  END  START  ") {
         Some(out) => {
-            assert!(rt; trim(&out) == b"  END  START");
+            assert!(rt; trim(&out) == b"  END  START".as_slice());
             assert!(rt; out[12] == b' ' && out[79] == b' ');
             Ok(())
         }
@@ -116,14 +116,14 @@ fn a_text_is_split_at_byte_10(rt: HostRuntime) -> Result<(), Fail> {
     let Some((card, rest)) = first_card(b"A\n\nB") else {
         return Err(Fail::new("there is a card"));
     };
-    assert!(rt; card == b"A" && rest == b"\nB");
+    assert!(rt; card == b"A".as_slice() && rest == b"\nB".as_slice());
     let Some((card, rest)) = first_card(rest) else {
         return Err(Fail::new("there is an empty card"));
     };
-    assert!(rt; card.is_empty() && rest == b"B");
+    assert!(rt; card.is_empty() && rest == b"B".as_slice());
     let Some((card, rest)) = first_card(rest) else {
         return Err(Fail::new("there is a last card"));
     };
-    assert!(rt; card == b"B" && rest.is_empty());
+    assert!(rt; card == b"B".as_slice() && rest.is_empty());
     Ok(())
 }
