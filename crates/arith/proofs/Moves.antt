@@ -1,5 +1,5 @@
 -- The numbers of shifted bytes, as the code works them out.
-use Rattle.std.proofs.Common.{◌≡◌, ℕ, ◌+◌, ◌-◌, ◌*◌, ◌/◌, ◌%◌, ◌^◌, ◌<◌, ◌≤◌, min, true, List, ◌++◌, length, take, drop, replicate, sym, refl, ap, ◌∙◌, mod-eq_of_lt, arith, length-append, length-drop, length-take}
+use Rattle.std.proofs.Common.{◌≡◌, ℕ, ◌+◌, ◌-◌, ◌*◌, ◌/◌, ◌%◌, ◌^◌, ◌<◌, ◌≤◌, min, true, List, ◌++◌, length, take, drop, replicate, sym, ap, ◌∙◌, mod-eq_of_lt, arith, length-append, length-drop, length-take}
 use native.Mathlib.Nat.{pow-le-pow_right}
 use lib.ListN.{length-replicate}
 use Rattle.std.proofs.lemmas.List.{take_at, drop_at, take-append-drop, length-take-le}

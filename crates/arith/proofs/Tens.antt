@@ -1,8 +1,8 @@
 -- AX as one number and as ten bytes.
-use Rattle.std.proofs.Common.{◌≡◌, ℕ, ◌+◌, ◌*◌, ◌/◌, ◌%◌, ◌^◌, ◌<◌, List, ◌++◌, sym, refl, ap, ◌∙◌, mod-eq_of_lt, arith}
+use Rattle.std.proofs.Common.{◌≡◌, ℕ, ◌+◌, ◌*◌, ◌/◌, ◌%◌, ◌^◌, ◌<◌, List, ◌++◌, sym, ap, ◌∙◌, mod-eq_of_lt, arith}
 use lib.Arith.{digits_div, digits_mod}
 use Rattle.std.proofs.lemmas.Nat.{div_below, div-add-mod'}
-use Rattle.word.specs.Bytes.{packed, unpacked}
+use Rattle.word.specs.Bytes.{unpacked}
 use Rattle.word.proofs.Bytes.{unpacked_rest, unpacked_split}
 
 -- the bytes of A and of X are those of the joint number

@@ -1,9 +1,8 @@
 -- The examples, as antt computes them from the definitions.
-use Rattle.std.proofs.Common.{◌≡◌, ◌/◌, ◌^◌, List, [], Some, None, codes, Option, refl, ap}
+use Rattle.std.proofs.Common.{◌≡◌, [], Some, None, codes, Option, refl, ap}
 use Rattle.eval.specs.Eval.{value_of}
 use Rattle.word.specs.Field.{stored_bytes, right_end}
 use Rattle.wvalues.specs.Pieces.{w_value_of}
-use Rattle.word.specs.declared.sign.Sign.TheVariants.{Plus, Minus}
 use Rattle.word.specs.declared.word.Word.{Word}
 use Rattle.word.specs.Bytes.{unpacked}
 use Rattle.word.specs.Word.{word_of}

@@ -1,10 +1,10 @@
 -- The address in an instruction's word.
-use Rattle.std.proofs.Common.{◌≡◌, ℕ, ◌+◌, ◌-◌, ◌*◌, ◌/◌, ◌%◌, ◌^◌, ◌<◌, ◌≤◌, sym, refl, ap, ◌∙◌, mod-eq_of_lt, arith, lit≤}
+use Rattle.std.proofs.Common.{◌≡◌, ℕ, ◌+◌, ◌*◌, ◌/◌, ◌%◌, ◌<◌, ◌≤◌, ap, ◌∙◌, arith, lit≤}
 use Rattle.instructions.specs.Instructions.{instruction_word}
 use Rattle.word.proofs.Cuts.{read_value, stored_value}
 use Rattle.word.proofs.Same.{word_of_sign, word_of_magnitude, word_of_same}
-use Rattle.word.specs.Bytes.{packed, unpacked}
-use Rattle.word.specs.Field.{read_bytes, stored_bytes, stored_at}
+use Rattle.word.specs.Bytes.{packed}
+use Rattle.word.specs.Field.{stored_bytes, stored_at}
 use Rattle.word.specs.Word.{word_of, bytes_of}
 use Rattle.word.specs.declared.field.Field.{Field}
 use Rattle.word.specs.declared.sign.Sign.{Sign}

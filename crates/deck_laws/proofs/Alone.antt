@@ -1,18 +1,17 @@
 -- The value of an expression that is one symbol.
-use Rattle.std.proofs.Common.{◌≡◌, ℕ, zero, suc, ◌+◌, ◌-◌, ◌%◌, ◌^◌, ◌<◌, ◌≤◌, Bool, true, false, cond, ◌&&◌, ◌||◌, eqb, ltb, leb, List, [], ◌∷◌, length, take, drop, Some, None, Option, sym, refl, ap, ◌∙◌, subst, mod-eq_of_lt, arith}
+use Rattle.std.proofs.Common.{◌≡◌, ℕ, suc, ◌+◌, ◌-◌, ◌^◌, ◌<◌, Bool, true, false, cond, ◌&&◌, ◌||◌, eqb, leb, List, [], ◌∷◌, length, take, drop, Some, None, Option, sym, refl, ap, ◌∙◌, mod-eq_of_lt, arith}
 use Rattle.arith.specs.Sums.{sum_sign, sum_size}
 use Rattle.card.specs.Text.{codes_of}
 use Rattle.eval.specs.Eval.{and_then, as_number, applied_to, value_of, worked_by}
-use Rattle.scan.specs.Atoms.{sign_of, atom_of, front_of, word_of as atom_of_marks, either_of, number_of, digits_from, all_digits, run_of}
+use Rattle.scan.specs.Atoms.{sign_of, atom_of, front_of, word_of as atom_of_marks, either_of, digits_from, all_digits, run_of}
 use Rattle.scan.specs.Symbols.{is_letter, is_digit, is_mark, all_marks, any_letter, is_symbol, name_of, ten_of}
-use Rattle.scan.specs.Terms.{with_atom, first_of, on_term, more_of, terms_of}
+use Rattle.scan.specs.Terms.{with_atom, on_term, more_of, terms_of}
 use Rattle.scan.specs.declared.terms.Atom.{Atom}
 use Rattle.scan.specs.declared.terms.Atom.TheVariants.{Symbol, Here}
 use Rattle.scan.specs.declared.terms.Operator.{Operator}
 use Rattle.scan.specs.declared.terms.Operator.TheVariants.{Plus as PlusOf, Minus as MinusOf}
-use Rattle.scan.specs.declared.terms.Term.{Term}
 use Rattle.std.proofs.lemmas.List.{take_all, drop_all}
-use Rattle.std.proofs.lemmas.Bool.{both_ways, and_parts, ltb-true, lt-ltb}
+use Rattle.std.proofs.lemmas.Bool.{both_ways, and_parts, lt-ltb}
 use Rattle.std.proofs.lemmas.Bool.Decides.{nat_tests}
 use Rattle.std.specs.Option.{option_map}
 use Rattle.symbols.specs.Symbols.{known_as}

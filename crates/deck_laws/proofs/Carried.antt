@@ -1,11 +1,10 @@
 -- An A-part that is one symbol carries the symbol's value.
-use Rattle.std.proofs.Common.{◌≡◌, ℕ, zero, suc, ◌+◌, ◌<◌, ◌≤◌, Bool, true, false, cond, not, ◌&&◌, ◌||◌, eqb, leb, ◌⊎◌, List, [], ◌∷◌, ◌++◌, length, get_or, is_some, Some, None, Ok, Option, unwrap_or, sym, refl, ap, ◌∙◌, subst, inl, inr, arith, leb-true}
+use Rattle.std.proofs.Common.{◌≡◌, ℕ, zero, suc, ◌<◌, ◌≤◌, Bool, true, false, cond, ◌&&◌, ◌||◌, eqb, leb, List, [], ◌∷◌, ◌++◌, length, get_or, is_some, Some, None, Ok, Option, unwrap_or, sym, refl, ap, ◌∙◌, subst, arith, leb-true}
 use Rattle.eval.specs.Eval.{and_then, as_number, value_of}
 use Rattle.instructions.specs.Instructions.{unless_known, future_of, as_address, a_word, up_to_bound, part_number, instruction_word, word_of_parts, assembled_word}
 use Rattle.mixal.specs.Assembled.{read_from}
-use Rattle.mixal.specs.Causes.{cause_of}
-use Rattle.mixal.specs.Deck.{State, fresh, zero as zero_word, after_card, after_named, after_operation, after_remark, awaited_after, named_in, future_name, future_for, defined, loc_name, loc_word, a_part, made_with, made_on, is_end}
-use Rattle.mixal.specs.Ends.{Assembled, ended, at_end, addressed, placed, is_loc}
+use Rattle.mixal.specs.Deck.{State, fresh, zero as zero_word, after_card, after_named, after_operation, after_remark, awaited_after, named_in, future_name, future_for, defined, loc_name, loc_word, a_part, made_with, is_end}
+use Rattle.mixal.specs.Ends.{Assembled, addressed, placed, is_loc}
 use Rattle.mixal.specs.declared.draft.Made.{Made}
 use Rattle.mixal.specs.declared.draft.Made.TheVariants.{Nothing, Whole, Future}
 use Rattle.mixal.specs.declared.line.Line.{Line}
@@ -36,7 +35,7 @@ use Rattle.deck_laws.specs.Words.{made_by, made_named}
 use Rattle.deck_laws.proofs.Addressed.{address_made, address_stored}
 use Rattle.deck_laws.proofs.Alone.{symbol_value, number_magnitude}
 use Rattle.deck_laws.proofs.Meanings.{Entries, same_name, put_there, put_elsewhere, loc_there, defined_keeps, known_all, by_operation, once}
-use Rattle.deck_laws.proofs.Settled.{Member, member_front, member_last, Pending, Settled, in_range, low_on, low_word, loc_is, settled_all, settles}
+use Rattle.deck_laws.proofs.Settled.{Member, member_front, member_last, Settled, in_range, low_on, low_word, loc_is, settled_all, settles}
 use Rattle.deck_laws.proofs.Shown.{shown}
 use Rattle.deck_laws.proofs.Trace.{GoesOn, goes_on, from_card}
 

@@ -1,5 +1,5 @@
 -- What follows END changes nothing.
-use Rattle.std.proofs.Common.{◌≡◌, ℕ, suc, ◌<◌, Bool, true, false, cond, eqb, ◌⊎◌, List, [], ◌∷◌, ◌++◌, length, Some, None, Ok, Option, sym, refl, ap, ◌∙◌, inl, inr, arith}
+use Rattle.std.proofs.Common.{◌≡◌, ℕ, suc, ◌<◌, Bool, true, false, cond, eqb, ◌⊎◌, List, [], ◌∷◌, ◌++◌, length, None, Ok, sym, refl, ap, ◌∙◌, inl, inr, arith}
 use Rattle.card.specs.Lines.{cards_of, grown}
 use Rattle.mixal.specs.Assembled.{read_from, is_last, unless_rejected}
 use Rattle.mixal.specs.Causes.{cause_of}

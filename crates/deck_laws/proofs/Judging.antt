@@ -1,5 +1,5 @@
 -- The first bad card and the smallest number on it.
-use Rattle.std.proofs.Common.{◌≡◌, ℕ, zero, suc, ◌+◌, ◌-◌, ◌<◌, ◌≤◌, Bool, true, false, cond, ltb, ◌⊎◌, List, [], ◌∷◌, length, get_or, Some, None, Ok, Err, Option, Result, sym, refl, ap, ◌∙◌, subst, inl, inr, arith, ltb-true, leb-false}
+use Rattle.std.proofs.Common.{◌≡◌, ℕ, zero, suc, ◌+◌, ◌-◌, ◌<◌, Bool, true, false, cond, ltb, ◌⊎◌, List, [], ◌∷◌, length, get_or, Some, None, Ok, Err, Option, Result, sym, refl, ap, ◌∙◌, subst, inl, inr, arith, ltb-true, leb-false}
 use Rattle.mixal.specs.Assembled.{read_from, is_last, unless_rejected}
 use Rattle.mixal.specs.Causes.{holds, misses_end, all_causes, cause_of, number_of}
 use Rattle.mixal.specs.Deck.{State, fresh, after_card, is_end}

@@ -1,9 +1,9 @@
 -- What symbols mean after a card, and that a definition stays.
-use Rattle.std.proofs.Common.{◌≡◌, ℕ, Bool, true, false, cond, not, ◌&&◌, List, [], ◌∷◌, length, is_some, Some, None, Ok, Option, sym, refl, ap, ◌∙◌, subst, arith}
+use Rattle.std.proofs.Common.{◌≡◌, ℕ, Bool, true, false, cond, not, ◌&&◌, List, [], ◌∷◌, is_some, Some, None, Ok, Option, sym, refl, ap, ◌∙◌, subst, arith}
 use Rattle.mixal.specs.Assembled.{read_from}
 use Rattle.mixal.specs.Causes.{cause_of, is_known, ready_for}
 use Rattle.mixal.specs.Deck.{State, after_card, after_named, after_operation, after_remark, defined, named_in, future_for, loc_name, loc_word, is_end, is_end_of}
-use Rattle.mixal.specs.Ends.{Assembled, ended, at_end, is_awaited, is_loc, waits, supplied_one, supplied_if, supplied, symbols_at_end}
+use Rattle.mixal.specs.Ends.{Assembled, at_end, is_awaited, is_loc, waits, supplied_one, supplied_if, supplied}
 use Rattle.mixal.specs.declared.cause.Cause.TheVariants.{DefinedTwice}
 use Rattle.names.specs.Names.{operation_of}
 use Rattle.mixal.proofs.Found.{ready}
@@ -12,7 +12,7 @@ use Rattle.names.specs.declared.kinds.Operation.TheVariants.{Machine, Equ, Orig,
 use Rattle.scan.specs.Columns.{is_remark, op_of, address_of}
 use Rattle.std.proofs.lemmas.Slice.Eq.{bytes_eq-Decides}
 use Rattle.std.proofs.lemmas.Bool.{both_ways, and_parts}
-use Rattle.symbols.specs.Symbols.{meaning_of, word_in, word_of_some, known_as}
+use Rattle.symbols.specs.Symbols.{meaning_of, word_of_some, known_as}
 use Rattle.symbols.specs.declared.meaning.Meaning.{Meaning}
 use Rattle.symbols.specs.declared.meaning.Meaning.TheVariants.{Defined, Awaited}
 use Rattle.table.proofs.Ordered.{lookup_put, lookup_other}

@@ -1,9 +1,9 @@
 -- A symbol that is awaited gets a value that an address can hold.
-use Rattle.std.proofs.Common.{◌≡◌, ℕ, suc, ◌%◌, ◌^◌, ◌<◌, ◌≤◌, Bool, true, false, cond, not, ◌&&◌, ◌||◌, ltb, leb, ◌⊎◌, List, [], ◌∷◌, ◌++◌, length, is_some, Some, None, Ok, Option, unwrap_or, sym, refl, ap, ◌∙◌, subst, inl, inr, arith, leb-false, leb-true}
+use Rattle.std.proofs.Common.{◌≡◌, ℕ, suc, ◌<◌, ◌≤◌, Bool, true, false, cond, not, ◌&&◌, ◌||◌, ltb, leb, ◌⊎◌, List, [], ◌∷◌, ◌++◌, length, is_some, Some, None, Ok, Option, unwrap_or, sym, refl, ap, ◌∙◌, subst, inl, inr, arith, leb-false, leb-true}
 use Rattle.mixal.proofs.Found.{ready}
 use Rattle.mixal.specs.Assembled.{read_from}
 use Rattle.mixal.specs.Causes.{cause_of, out_of_range, on_operation, ready_for, is_location, suits, loc_awaited}
-use Rattle.mixal.specs.Deck.{State, zero, after_card, after_named, after_operation, after_remark, awaited_after, named_in, future_for, defined, loc_name, loc_word, here_after, w_value_on, is_end, is_end_of}
+use Rattle.mixal.specs.Deck.{State, zero, after_card, after_named, after_operation, after_remark, awaited_after, named_in, future_for, loc_name, loc_word, here_after, is_end, is_end_of}
 use Rattle.mixal.specs.Ends.{Assembled, ended, at_end, is_awaited, is_loc, waits, supplied_one, supplied_if, supplied}
 use Rattle.mixal.specs.declared.cause.Cause.TheVariants.{Range}
 use Rattle.names.specs.Names.{operation_of}

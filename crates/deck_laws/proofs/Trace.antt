@@ -1,12 +1,11 @@
 -- One card of a deck, and the deck from there on.
-use Rattle.std.proofs.Common.{◌≡◌, ℕ, zero, suc, ◌+◌, ◌-◌, ◌<◌, ◌≤◌, Bool, true, false, cond, not, ◌&&◌, List, [], ◌∷◌, ◌++◌, length, get_or, is_some, Some, None, Ok, Err, Option, Result, sym, refl, ap, ◌∙◌, subst, add-one, arith}
+use Rattle.std.proofs.Common.{◌≡◌, ℕ, zero, suc, ◌+◌, ◌-◌, ◌<◌, ◌≤◌, Bool, true, false, cond, not, ◌&&◌, List, [], ◌∷◌, length, get_or, is_some, Some, None, Ok, Option, sym, refl, ap, ◌∙◌, subst, add-one, arith}
 use Rattle.mixal.specs.Assembled.{read_from, is_last, unless_rejected}
 use Rattle.mixal.specs.Causes.{holds, misses_end, first_of, all_causes, cause_of, number_of}
-use Rattle.mixal.specs.Deck.{State, after_card, after_named, after_operation, after_remark, drafted, is_end, is_end_of}
+use Rattle.mixal.specs.Deck.{State, after_card, after_named, after_remark, is_end}
 use Rattle.mixal.specs.Ends.{Assembled, ended, at_end}
 use Rattle.mixal.specs.declared.cause.Cause.{Cause}
 use Rattle.mixal.specs.declared.cause.Cause.TheVariants.{Text, Columns, DefinedTwice, Operation as NoOperation, Address, Undefined, Range, NoEnd, TooManySymbols}
-use Rattle.mixal.specs.declared.cause.Rejection.{Rejection}
 use Rattle.names.specs.Names.{operation_of}
 use Rattle.names.specs.declared.kinds.Operation.{Operation}
 use Rattle.scan.specs.Columns.{is_remark, op_of}

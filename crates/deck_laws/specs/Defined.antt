@@ -1,5 +1,5 @@
 -- Symbols: each has one definition, and an A-part that is one symbol carries its value.
-use Rattle.std.specs.Prelude.{◌≡◌, ℕ, true, false, List, Some, None, slice_index_or}
+use Rattle.std.specs.Prelude.{◌≡◌, ℕ, false, List, Some, None, slice_index_or}
 use Rattle.eval.specs.Eval.{as_number}
 use Rattle.mixal.specs.Causes.{ready_for}
 use Rattle.mixal.specs.Deck.{State, fresh, loc_name, loc_word, a_part}

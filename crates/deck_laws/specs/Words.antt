@@ -1,5 +1,5 @@
 -- The words of the listing are the words assembled, card by card.
-use Rattle.std.specs.Prelude.{◌≡◌, ℕ, suc, ◌+◌, ◌-◌, ◌<◌, ◌≤◌, true, false, cond, List, length, Some, None, Option, slice_index_or}
+use Rattle.std.specs.Prelude.{◌≡◌, ℕ, ◌+◌, ◌-◌, ◌<◌, ◌≤◌, true, false, cond, List, length, Some, None, Option, slice_index_or}
 use Rattle.card.specs.Text.{padded}
 use Rattle.mixal.specs.Deck.{State, fresh, zero, made_on, is_end}
 use Rattle.mixal.specs.Ends.{Assembled, blank, placed}

@@ -1,5 +1,5 @@
 -- One term further.
-use Rattle.std.proofs.Common.{◌≡◌, ℕ, Bool, true, false, ◌||◌, List, [], ◌∷◌, is_some, Some, None, Option, sym, refl, ap, ◌∙◌}
+use Rattle.std.proofs.Common.{◌≡◌, ℕ, true, false, ◌||◌, List, is_some, Some, None, Option, refl}
 use Rattle.card.specs.Text.{both}
 use Rattle.eval.specs.Eval.{and_then, stepped, worked_by, is_unknown, any_unknown_in}
 use Rattle.scan.specs.declared.terms.Term.{Term}

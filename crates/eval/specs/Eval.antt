@@ -1,5 +1,5 @@
 -- Expressions worked left to right.
-use Rattle.std.specs.Prelude.{ℕ, Bool, true, false, not, ◌||◌, List, [], ◌∷◌, is_some, Some, None, Option}
+use Rattle.std.specs.Prelude.{ℕ, Bool, false, not, ◌||◌, List, [], ◌∷◌, is_some, Some, None, Option}
 use Rattle.scan.specs.Terms.{terms_of}
 use Rattle.scan.specs.declared.terms.Atom.{Atom}
 use Rattle.scan.specs.declared.terms.Atom.TheVariants.{Number, Symbol, Here}

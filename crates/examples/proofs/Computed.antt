@@ -1,6 +1,5 @@
 -- The examples, as antt computes them from the definitions.
 use mathlib.Core.Path.{◌≡◌, refl}
-use Prim.Native.Nat.{◌/◌, ◌^◌}
 use Rattle.arith.specs.Pairs.{product_of, quotient_of}
 use Rattle.arith.specs.Shifts.{shifted_left, shifted_right, turned, sla_of, sra_of, srax_of, slc_of, src_of}
 use Rattle.word.specs.declared.sign.Sign.TheVariants.{Plus, Minus}

@@ -1,5 +1,5 @@
 -- The ADDRESS of an instruction: A-part, index and F, and the word that they make with C.
-use Rattle.std.specs.Prelude.{ℕ, ◌+◌, ◌*◌, Bool, true, false, cond, ◌&&◌, ◌||◌, List, length, is_some, Some, None, Option, ◌==◌, nat_le}
+use Rattle.std.specs.Prelude.{ℕ, ◌+◌, ◌*◌, Bool, false, cond, ◌&&◌, ◌||◌, List, length, is_some, Some, None, Option, ◌==◌, nat_le}
 use Rattle.eval.specs.Eval.{and_then, value_of, undefined_in}
 use Rattle.scan.specs.Address.{parts_of}
 use Rattle.scan.specs.Symbols.{name_of}

@@ -13,7 +13,7 @@ use Rattle.mixal.specs.Causes.{cause_of, late_cause}
 use Rattle.mixal.specs.Deck.{State, after_card, is_end}
 use Rattle.mixal.specs.Ends.{Assembled, ended, at_end}
 use Rattle.mixal.specs.Model.{Answers, assembled}
-use Rattle.mixal.specs.Steps.{Read, Steps, ended_if}
+use Rattle.mixal.specs.Steps.{Steps, ended_if}
 
 -- a good END card gives the deck
 pub gives : (s t : State) (c : List ℕ) (d : Deck) → t ≡ at_end s c → None ≡ late_cause false t.symbols t.here c End → assembled d ≡ ended (length s.drafts) t c → Answers (Ok d) (ended_if s c)

@@ -1,5 +1,5 @@
 -- A whole deck: assembled, or rejected with its cause and card.
-use Rattle.std.specs.Prelude.{◌≡◌, ℕ, suc, Bool, true, false, cond, List, [], ◌∷◌, length, Some, None, Ok, Err, Option, Result}
+use Rattle.std.specs.Prelude.{ℕ, suc, Bool, true, false, cond, List, [], ◌∷◌, length, Some, None, Ok, Err, Option, Result}
 use Rattle.card.specs.Lines.{cards_of}
 use Rattle.mixal.specs.declared.cause.Cause.{Cause}
 use Rattle.mixal.specs.declared.cause.Cause.TheVariants.{NoEnd}

@@ -1,5 +1,5 @@
 -- The causes of rejection, one test for each number, of a card in its place.
-use Rattle.std.specs.Prelude.{ℕ, ◌+◌, Bool, true, false, cond, not, ◌&&◌, ◌||◌, List, [], ◌∷◌, length, is_some, Some, None, Option, ◌==◌, nat_le, nat_lt}
+use Rattle.std.specs.Prelude.{ℕ, ◌+◌, Bool, false, cond, not, ◌&&◌, ◌||◌, List, [], ◌∷◌, length, is_some, Some, None, Option, ◌==◌, nat_le, nat_lt}
 use Rattle.card.specs.Text.{sound}
 use Rattle.instructions.specs.Instructions.{is_address, address_undefined, assembled_word}
 use Rattle.names.specs.Names.{operation_of}

@@ -1,5 +1,5 @@
 -- END: words for the symbols that no card defines, and the deck that comes out.
-use Rattle.std.specs.Prelude.{ℕ, suc, ◌%◌, Bool, true, false, cond, not, ◌&&◌, List, [], ◌∷◌, ◌++◌, map, length, replicate, is_some, Some, None, Option}
+use Rattle.std.specs.Prelude.{ℕ, suc, ◌%◌, Bool, false, cond, not, ◌&&◌, List, [], ◌∷◌, ◌++◌, map, replicate, is_some, Some, None, Option}
 use Rattle.card.specs.Text.{padded}
 use Rattle.eval.specs.Eval.{as_number}
 use Rattle.symbols.specs.Symbols.{meaning_of, word_in, known_as}

@@ -1,7 +1,7 @@
 -- The words of a deck by location.
-use Rattle.std.specs.Prelude.{◌≡◌, ℕ, cond, List, [], ◌∷◌, Some, None, Option, ◌==◌}
+use Rattle.std.specs.Prelude.{ℕ, cond, List, [], ◌∷◌, Some, None, Option, ◌==◌}
 use Rattle.table.specs.Keys.{location_before, location_same}
-use Rattle.table.specs.Pairs.{lookup, put}
+use Rattle.table.specs.Pairs.{put}
 use Rattle.table.specs.declared.location.Location.{Location}
 use Rattle.word.specs.declared.word.Word.{Word}
 use Rattle.mixal.specs.declared.line.Line.{Line}

@@ -5,7 +5,6 @@ use Rattle.names.specs.Names.{operation_of}
 use Rattle.names.specs.declared.kinds.Operation.{Operation}
 use Rattle.names.specs.declared.kinds.Operation.TheVariants.{End}
 use Rattle.scan.specs.Columns.{is_remark, op_of, address_of}
-use Rattle.mixal.specs.declared.cause.Cause.{Cause}
 use Rattle.mixal.specs.declared.cause.Cause.TheVariants.{NoEnd}
 use Rattle.mixal.specs.declared.cause.Refusal.{Refusal}
 use Rattle.mixal.specs.declared.cause.Refusal.TheVariants.{Rejected, NoMemory}

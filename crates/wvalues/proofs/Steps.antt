@@ -1,5 +1,5 @@
 -- One piece further.
-use Rattle.std.proofs.Common.{◌≡◌, ℕ, Bool, true, false, ◌||◌, List, Some, None, Option, sym, refl, ap, ◌∙◌}
+use Rattle.std.proofs.Common.{◌≡◌, ℕ, Bool, true, false, ◌||◌, List, Some, None, Option, sym, refl, ap}
 use Rattle.card.specs.Text.{both}
 use Rattle.std.proofs.lemmas.Bool.{both_ways, and_parts}
 use Rattle.symbols.specs.declared.meaning.Meaning.{Meaning}

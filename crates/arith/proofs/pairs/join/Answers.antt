@@ -1,4 +1,4 @@
-use Rattle.std.proofs.Common.{◌≡◌, ap, ◌∙◌, arith}
+use Rattle.std.proofs.Common.{ap, ◌∙◌, arith}
 use Rattle.word.specs.Bytes.{unpacked}
 use Rattle.arith.proofs.Tens.{tens}
 use Rattle.arith.proofs.pairs.join.Goals as goal

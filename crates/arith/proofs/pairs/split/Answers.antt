@@ -1,4 +1,4 @@
-use Rattle.std.proofs.Common.{◌≡◌, ℕ, ◌/◌, List, ◌++◌, sym, ap, ◌∙◌, rules}
+use Rattle.std.proofs.Common.{ℕ, ◌/◌, List, ◌++◌, sym, ap, ◌∙◌, rules}
 use Rattle.word.specs.Bytes.{unpacked}
 use Rattle.word.proofs.Bytes.{unpacked_split}
 use Rattle.arith.proofs.Tens.{halves}

@@ -1,4 +1,4 @@
-use Rattle.std.proofs.Common.{◌≡◌, ℕ, ◌-◌, ap, ◌∙◌, arith}
+use Rattle.std.proofs.Common.{ℕ, ap, ◌∙◌, arith}
 use Rattle.word.specs.Bytes.{unpacked}
 use Rattle.arith.specs.Shifts.{turned}
 use Rattle.arith.proofs.shifts.around_back.Goals as goal

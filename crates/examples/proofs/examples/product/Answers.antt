@@ -1,6 +1,6 @@
-use mathlib.Core.Path.{◌≡◌, ap, ◌∙◌}
+use mathlib.Core.Path.{ap, ◌∙◌}
 use Rattle.arith.specs.Pairs.{product_of}
-use Rattle.word.specs.declared.sign.Sign.TheVariants.{Plus, Minus}
+use Rattle.word.specs.declared.sign.Sign.TheVariants.{Minus}
 use Rattle.word.specs.declared.word.Word.{Word}
 use Rattle.word.specs.Word.{word_of}
 use Rattle.examples.proofs.Computed.{product_computed}

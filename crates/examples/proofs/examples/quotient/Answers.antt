@@ -1,6 +1,5 @@
-use mathlib.Core.Path.{◌≡◌, refl, ap, ◌∙◌}
-use mathlib.Core.Bool.{Bool, false}
-use native.Mathlib.Omega.{arith}
+use mathlib.Core.Path.{◌≡◌, ap, ◌∙◌}
+use mathlib.Core.Bool.{Bool}
 use lib.Dec.{leb}
 use Rattle.arith.specs.Pairs.{quotient_of}
 use Rattle.word.specs.declared.sign.Sign.TheVariants.{Plus}

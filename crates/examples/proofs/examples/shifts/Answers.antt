@@ -1,6 +1,6 @@
-use mathlib.Core.Path.{◌≡◌, ap, ◌∙◌}
-use Rattle.arith.specs.Shifts.{sla_of, sra_of, srax_of, slc_of, src_of}
-use Rattle.word.specs.declared.sign.Sign.TheVariants.{Plus, Minus}
+use mathlib.Core.Path.{ap, ◌∙◌}
+use Rattle.arith.specs.Shifts.{sla_of, sra_of, slc_of, src_of}
+use Rattle.word.specs.declared.sign.Sign.TheVariants.{Plus}
 use Rattle.word.specs.declared.word.Word.{Word}
 use Rattle.word.specs.Word.{word_of}
 use Rattle.examples.proofs.Computed.{shifts_of, shifts_computed}

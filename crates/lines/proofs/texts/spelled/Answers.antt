@@ -1,4 +1,4 @@
-use Rattle.std.proofs.Common.{◌≡◌, ℕ, ◌<◌, List, [], ◌∷◌, ◌++◌, map, length, take, sym, ap, ◌∙◌, arith, length-set}
+use Rattle.std.proofs.Common.{ℕ, ◌<◌, List, [], ◌∷◌, ◌++◌, map, length, take, sym, ap, ◌∙◌, arith, length-set}
 use Rattle.card.specs.Table.{character_of}
 use Rattle.std.proofs.lemmas.List.{take_more_set, map_more, take_all}
 use Rattle.lines.proofs.texts.spelled.Goals as goal

@@ -1,4 +1,4 @@
-use Rattle.std.proofs.Common.{◌≡◌, ℕ, List, [], ◌∷◌, ◌++◌, map, length, ap, ◌∙◌, length-append, length-set, rules}
+use Rattle.std.proofs.Common.{◌≡◌, ℕ, List, [], ◌∷◌, ◌++◌, map, length, ap, ◌∙◌, rules}
 use Rattle.card.specs.Table.{character_of}
 use Rattle.lines.specs.Lines.{symbol_line}
 use Rattle.lines.proofs.Ends.{named}

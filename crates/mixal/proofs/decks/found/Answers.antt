@@ -1,5 +1,4 @@
 use Rattle.std.proofs.Common.{◌≡◌, true, List, [], vec_items, refl, ap, ◌∙◌}
-use Rattle.mixal.specs.Image.{image_of}
 use Rattle.table.specs.Items.{items}
 use Rattle.table.specs.Keys.{location_before, location_same}
 use Rattle.table.specs.Pairs.{lookup, sorted}

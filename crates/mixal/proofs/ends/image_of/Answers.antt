@@ -1,4 +1,4 @@
-use Rattle.std.proofs.Common.{ℕ, ◌+◌, List, drop, sym, ap, ◌∙◌}
+use Rattle.std.proofs.Common.{◌+◌, List, drop, sym, ap, ◌∙◌}
 use Rattle.mixal.specs.Image.{image_from, with_placed}
 use Rattle.mixal.specs.declared.line.Line.{Line}
 use Rattle.std.proofs.lemmas.List.{at_drop_more, at_drop_all}

@@ -1,6 +1,5 @@
-use Rattle.std.proofs.Common.{◌≡◌, List, [], ◌∷◌, ◌++◌, map, take, None, vec_items, sym, ap, ◌∙◌}
+use Rattle.std.proofs.Common.{◌≡◌, List, [], ◌∷◌, ◌++◌, map, take, None, sym, ap, ◌∙◌}
 use Rattle.mixal.specs.Ends.{resolved}
-use Rattle.mixal.specs.declared.draft.Draft.{Draft}
 use Rattle.mixal.specs.declared.line.Line.{Line}
 use Rattle.std.proofs.lemmas.List.{map_more, take_all}
 use Rattle.symbols.specs.Symbols.{entries}

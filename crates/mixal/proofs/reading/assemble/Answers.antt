@@ -1,4 +1,4 @@
-use Rattle.std.proofs.Common.{◌≡◌, ℕ, List, Ok, Err, Option, Result, sym, ap, ◌∙◌, subst}
+use Rattle.std.proofs.Common.{ℕ, List, Ok, Err, Option, Result, sym, ap, ◌∙◌, subst}
 use Rattle.card.specs.Lines.{cards_of}
 use Rattle.mixal.specs.Assembled.{read_from}
 use Rattle.mixal.specs.Ends.{Assembled}
