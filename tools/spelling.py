@@ -52,7 +52,8 @@ def spelled(name):
     name = name.replace("′", "'")
     if name[0].isupper():
         return "".join(part[0].upper() + part[1:] for part in name.split("-"))
-    return re.sub(r"([a-z0-9])([A-Z])", r"\1_\2", name.replace("-", "_")).lower()
+    name = re.sub(r"([A-Z])([A-Z][a-z])", r"\1_\2", name.replace("-", "_"))
+    return re.sub(r"([a-z0-9])([A-Z])", r"\1_\2", name).lower()
 
 
 def main():

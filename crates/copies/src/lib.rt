@@ -1,7 +1,7 @@
 // Cards read in and punched out again, as the lines of a report.
 #![tactic(auto)]
 
-ghost use Rattle.std.specs.Prelude.{◌≡◌, ◌+◌, ◌-◌, ◌<◌, ◌≤◌, ◌++◌, length, IfOk, string_bytes, OnOk};
+ghost use Rattle.std.specs.Prelude.{◌≡◌, ◌+◌, ◌≤◌, ◌++◌, length, IfOk, OnOk};
 ghost use Rattle.card.specs.Lines.{cards_of};
 ghost use Rattle.card.specs.Text.{card_of};
 ghost use Rattle.copies.specs.Copies.{printed, damage, lines, damaged, closing, report};

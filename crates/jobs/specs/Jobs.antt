@@ -1,4 +1,4 @@
--- What mixjob prints.
+-- What mixlist prints.
 use Rattle.std.specs.Prelude.{ℕ, List, [], ◌∷◌, ◌++◌, Ok, Err, codes, decimal, Result}
 use Rattle.listing.specs.Listing.{listing_of, symbol_lines_of}
 use Rattle.mixal.specs.Causes.{number_of}

@@ -1,4 +1,4 @@
-// What mixjob prints of a deck.
+// What mixlist prints of a deck.
 #![tactic(auto)]
 
 ghost use Rattle.std.specs.Prelude.{◌≡◌, IfOk, Ok};

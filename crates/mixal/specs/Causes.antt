@@ -12,7 +12,7 @@ use Rattle.symbols.specs.declared.meaning.Meaning.{Meaning}
 use Rattle.table.specs.Keys.{name_same}
 use Rattle.table.specs.declared.name.Name.{Name}
 use Rattle.word.specs.declared.word.Word.{Word}
-use Rattle.wvalues.specs.Pieces.{is_plus, is_wvalue, w_undefined_in, w_value_of}
+use Rattle.wvalues.specs.Pieces.{is_plus, is_w_value, w_undefined_in, w_value_of}
 use Rattle.mixal.specs.declared.cause.Cause.{Cause}
 use Rattle.mixal.specs.declared.cause.Cause.TheVariants.{Text, Columns, DefinedTwice, Operation as NoOperation, Address, Undefined, Range, NoEnd, TooManySymbols}
 use Rattle.mixal.specs.Deck.{State, loc_name, future_for, is_end}
@@ -46,11 +46,11 @@ is_known es (Some n) = is_some (known_as es n)
 -- 5: the ADDRESS is not what the operation takes
 abbrev pub unreadable : List ℕ → Operation → Bool
 unreadable text (Machine i) = not (is_address text)
-unreadable text Equ = not (is_wvalue text)
-unreadable text Orig = not (is_wvalue text)
-unreadable text Con = not (is_wvalue text)
+unreadable text Equ = not (is_w_value text)
+unreadable text Orig = not (is_w_value text)
+unreadable text Con = not (is_w_value text)
 unreadable text Alf = false
-unreadable text End = not (is_wvalue text)
+unreadable text End = not (is_w_value text)
 
 -- 6: it names a symbol that is not defined
 abbrev pub undefined_for : List (Name × Meaning) → List ℕ → Operation → Bool

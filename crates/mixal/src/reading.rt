@@ -1,4 +1,4 @@
-ghost use Rattle.std.specs.Prelude.{◌≡◌, length};
+ghost use Rattle.std.specs.Prelude.{◌≡◌};
 ghost use Rattle.mixal.specs.Assembled.{deck_of};
 ghost use Rattle.mixal.specs.Deck.{fresh};
 ghost use Rattle.mixal.specs.Model.{model_of, Answers};

@@ -2,6 +2,7 @@
 #![tactic(auto)]
 
 use std::io::Read;
+use std::process::ExitCode;
 
 fn run(rt: &HostRuntime) -> anyhow::Result<()> {
     let mut input = Vec::new(rt.alloc());
@@ -11,10 +12,12 @@ fn run(rt: &HostRuntime) -> anyhow::Result<()> {
     Ok(())
 }
 
-fn main(rt: HostRuntime) -> anyhow::Result<()> {
-    let result = run(&rt);
-    if let Err(why) = &result {
-        let _ = eprintln!(rt; "mixlist: {why}");
+fn main(rt: HostRuntime) -> ExitCode {
+    match run(&rt) {
+        Ok(()) => ExitCode::SUCCESS,
+        Err(why) => {
+            let _ = eprintln!(rt; "mixlist: {why}");
+            ExitCode::FAILURE
+        }
     }
-    result
 }

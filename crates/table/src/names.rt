@@ -5,7 +5,6 @@ ghost use Rattle.table.specs.Order.{Tells};
 ghost use Rattle.table.specs.Lex.{lex_one, lex_on, same_stays};
 ghost use Rattle.std.proofs.Common.{rules};
 ghost use Rattle.std.specs.Cmp.Rules.{comparing};
-ghost use Rattle.std.specs.Cmp as Keys;
 
 use crate::key::Key;
 use crate::name::Name;
@@ -36,7 +35,7 @@ impl Key for Name {
 impl PartialEq for Name {
     ghost eq = { name_same };
 
-    ghost laws = { Keys.partial_equiv_from_equiv (Prim.search (comparing, rules)) };
+    ghost laws = { Prim.search (comparing, rules) };
 
     fn eq(&self, other: &Name) -> bool
         ensures test { result ≡ name_same self.now other.now }

@@ -2,7 +2,7 @@
 // Each answers none where the result's magnitude is 2^30 or more, or the divisor is 0.
 #![tactic(auto)]
 
-ghost use Rattle.std.specs.Prelude.{◌≡◌, ◌*◌, ◌/◌, ◌^◌, ◌<◌, pos, ◌+ℤ◌, ◌-ℤ◌, ◌*ℤ◌, IfSome};
+ghost use Rattle.std.specs.Prelude.{◌≡◌, ◌*◌, ◌^◌, ◌<◌, pos, ◌+ℤ◌, ◌-ℤ◌, ◌*ℤ◌, IfSome};
 ghost use Rattle.arith.specs.Sums.{sum_sign, sum_size};
 ghost use Rattle.values.specs.Values.{plain, fitted, sum_of, difference_of, times_of, over_of, fraction_of, colon_of};
 ghost use Rattle.word.specs.Word.{value, signed};

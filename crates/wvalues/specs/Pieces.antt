@@ -61,8 +61,8 @@ pieces_readable None = false
 pieces_readable (Some ps) = all_readable ps
 
 -- whether a text is a W-value
-abbrev pub is_wvalue : List ℕ → Bool
-is_wvalue text = pieces_readable (pieces_of text)
+abbrev pub is_w_value : List ℕ → Bool
+is_w_value text = pieces_readable (pieces_of text)
 
 -- whether what brackets hold names a symbol that is not defined
 abbrev pub brackets_undefined : List (Name × Meaning) → Option (List ℕ) → Bool

@@ -2,7 +2,7 @@ ghost use Rattle.std.specs.Prelude.{◌≡◌, true};
 ghost use Rattle.scan.specs.Address.{pieces_of};
 ghost use Rattle.std.specs.Option.{option_map};
 ghost use Rattle.symbols.specs.Symbols.{entries};
-ghost use Rattle.wvalues.specs.Pieces.{bounds_of, field_bounds, stored_piece, stored_by, w_value_of, brackets_readable, piece_readable, pieces_readable, is_wvalue, brackets_undefined, piece_undefined, pieces_undefined, w_undefined_in};
+ghost use Rattle.wvalues.specs.Pieces.{bounds_of, field_bounds, stored_piece, stored_by, w_value_of, brackets_readable, piece_readable, pieces_readable, is_w_value, brackets_undefined, piece_undefined, pieces_undefined, w_undefined_in};
 
 use eval::{undefined, value};
 use scan::{first_piece, is_expression};
@@ -19,14 +19,14 @@ pub fn w_value(symbols: &Symbols, here: u16, text: &[u8]) -> Option<Word>
 
 // Whether a text is a W-value.
 pub fn is_w_value(text: &[u8]) -> bool
-    ensures { result ≡ is_wvalue text.now }
+    ensures { result ≡ is_w_value text.now }
 {
     all_readable(text)
 }
 
 // Whether a W-value names a symbol that is not defined.
 pub fn w_undefined(symbols: &Symbols, text: &[u8]) -> bool
-    ensures { is_wvalue text.now ≡ true → result ≡ w_undefined_in (entries symbols.now) text.now }
+    ensures { is_w_value text.now ≡ true → result ≡ w_undefined_in (entries symbols.now) text.now }
 {
     any_undefined(symbols, text)
 }
