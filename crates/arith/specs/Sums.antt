@@ -1,17 +1,10 @@
 -- Sums of signs and magnitudes, and what ENT and ENN load.
-use Rattle.std.specs.Prelude.{◌≡◌, ℕ, ◌+◌, ◌-◌, ◌^◌, ◌<◌, Bool, true, false, cond, ◌+ℤ◌, Some, None, Option, ◌==◌, nat_le}
+use Rattle.std.specs.Prelude.{◌≡◌, ℕ, ◌+◌, ◌-◌, ◌^◌, ◌<◌, Bool, cond, ◌+ℤ◌, Some, None, Option, ◌==◌, nat_le}
 use Rattle.word.specs.declared.index.Index.{Index}
 use Rattle.word.specs.declared.sign.Sign.{Sign}
-use Rattle.word.specs.declared.sign.Sign.TheVariants.{Plus, Minus}
+use Rattle.word.specs.Sign.{like}
 use Rattle.word.specs.declared.word.Word.{Word}
 use Rattle.word.specs.Word.{word_of, signed}
-
--- whether two signs are like
-abbrev pub like : Sign → Sign → Bool
-like Plus Plus = true
-like Plus Minus = false
-like Minus Plus = false
-like Minus Minus = true
 
 -- the sign of a sum: that of the larger, and the register's at zero
 abbrev pub sum_sign : Sign → ℕ → Sign → ℕ → Sign

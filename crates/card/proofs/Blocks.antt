@@ -9,15 +9,15 @@ use Rattle.word.specs.declared.word.Word.{Word}
 use Rattle.word.specs.Word.{word_from, bytes_of}
 use Rattle.word.proofs.Same.{length_five, from_bytes_of, bytes_of_from}
 use Rattle.card.specs.Table.{character_of}
-use Rattle.card.specs.Text.{both, codes_of, text_word, word_text, text_words, text_of, padded, all_coded, card_of, Plain}
+use Rattle.card.specs.Text.{both, text_codes, text_word, word_text, text_words, words_text, padded, all_coded, card_of, Plain}
 use Rattle.card.proofs.Parts.{ahead}
 use Rattle.card.proofs.Codes.{coded, codes_again, some_both, some_mapped, some_codes, coded_append}
 
 -- five characters come back from their word
 pub word_back : (bs : List ℕ) (w : Word) → length bs ≡ 5 → text_word bs ≡ Some w → word_text w ≡ bs
-word_back bs w n e = at (codes_of bs) refl e
+word_back bs w n e = at (text_codes bs) refl e
   where
-    at : (o : Option (List ℕ)) → codes_of bs ≡ o → option_map (word_from Plus) o ≡ Some w → word_text w ≡ bs
+    at : (o : Option (List ℕ)) → text_codes bs ≡ o → option_map (word_from Plus) o ≡ Some w → word_text w ≡ bs
     at None p g = let z : ◌≡◌ {A = ℕ} 0 1 = cc in absurd (omega arith)
     at (Some cs) p g =
         let f : word_from Plus cs ≡ w = cc in
@@ -33,9 +33,9 @@ word_again w p =
 length_text : (w : Word) → length (word_text w) ≡ 5
 length_text w = length-map (bytes_of w) character_of ∙ length_five w.magnitude
 
-pub length_texts : (ws : List Word) → length (text_of ws) ≡ 5 * length ws
+pub length_texts : (ws : List Word) → length (words_text ws) ≡ 5 * length ws
 length_texts [] = refl
-length_texts (w ∷ ws) = length-append (word_text w) (text_of ws) ∙ (let e = length_text w in let f = length_texts ws in omega arith)
+length_texts (w ∷ ws) = length-append (word_text w) (words_text ws) ∙ (let e = length_text w in let f = length_texts ws in omega arith)
 
 -- one word further in a text
 words_more : (n i : ℕ) (bs : List ℕ) → i < n → text_words (n - i) (drop (5 * i) bs) ≡ both (text_word (take 5 (drop (5 * i) bs))) (text_words (n - (i + 1)) (drop (5 * (i + 1)) bs))
@@ -54,33 +54,33 @@ unfolding text_words
 words_end made bs n i h = let e : n - i ≡ 0 = omega arith in ap (λ (m : ℕ). ahead made (text_words m (drop (5 * i) bs))) e
 
 -- the text of one more word
-pub texts_more : (ws : List Word) (i : ℕ) (w : Word) → i < length ws → w ≡ get_or ws i w → text_of (take i ws) ++ word_text w ≡ text_of (take (i + 1) ws)
-texts_more ws i w h e = flat_map_more word_text [] (take i ws) w ∙ ap (λ (v : Word). text_of (take i ws ++ v ∷ [])) e ∙ sym (ap text_of (take_more ws i w h))
+pub texts_more : (ws : List Word) (i : ℕ) (w : Word) → i < length ws → w ≡ get_or ws i w → words_text (take i ws) ++ word_text w ≡ words_text (take (i + 1) ws)
+texts_more ws i w h e = flat_map_more word_text [] (take i ws) w ∙ ap (λ (v : Word). words_text (take i ws ++ v ∷ [])) e ∙ sym (ap words_text (take_more ws i w h))
 
 -- a text comes back from its words
-pub words_back : (n : ℕ) (bs : List ℕ) (ws : List Word) → length bs ≡ 5 * n → text_words n bs ≡ Some ws → text_of ws ≡ bs
+pub words_back : (n : ℕ) (bs : List ℕ) (ws : List Word) → length bs ≡ 5 * n → text_words n bs ≡ Some ws → words_text ws ≡ bs
 unfolding text_words
-words_back zero bs ws n e = let f : [] ≡ ws = cc in sym (ap text_of f) ∙ sym (nil_from_length bs n)
+words_back zero bs ws n e = let f : [] ≡ ws = cc in sym (ap words_text f) ∙ sym (nil_from_length bs n)
 words_back (suc n) bs ws l e = at (text_word (take 5 bs)) (text_words n (drop 5 bs)) refl refl e (words_back n (drop 5 bs))
   where
-    at : (o : Option Word) (r : Option (List Word)) → text_word (take 5 bs) ≡ o → text_words n (drop 5 bs) ≡ r → both o r ≡ Some ws → ((vs : List Word) → length (drop 5 bs) ≡ 5 * n → text_words n (drop 5 bs) ≡ Some vs → text_of vs ≡ drop 5 bs) → text_of ws ≡ bs
+    at : (o : Option Word) (r : Option (List Word)) → text_word (take 5 bs) ≡ o → text_words n (drop 5 bs) ≡ r → both o r ≡ Some ws → ((vs : List Word) → length (drop 5 bs) ≡ 5 * n → text_words n (drop 5 bs) ≡ Some vs → words_text vs ≡ drop 5 bs) → words_text ws ≡ bs
     at None r p q g rec = let z : ◌≡◌ {A = ℕ} 0 1 = cc in absurd (omega arith)
     at (Some w) None p q g rec = let z : ◌≡◌ {A = ℕ} 0 1 = cc in absurd (omega arith)
     at (Some w) (Some vs) p q g rec =
         let f : w ∷ vs ≡ ws = cc in
-        sym (ap text_of f)
-        ∙ ap (λ (t : List ℕ). t ++ text_of vs) (word_back (take 5 bs) w (length-take-le 5 bs (omega arith)) p)
+        sym (ap words_text f)
+        ∙ ap (λ (t : List ℕ). t ++ words_text vs) (word_back (take 5 bs) w (length-take-le 5 bs (omega arith)) p)
         ∙ ap (λ (t : List ℕ). take 5 bs ++ t) (rec vs (length-drop 5 bs ∙ omega arith) q)
         ∙ take-append-drop 5 bs
 
 -- plain words come back from their text
-words_again : (ws : List Word) → AllByRecursion Plain ws → text_words (length ws) (text_of ws) ≡ Some ws
+words_again : (ws : List Word) → AllByRecursion Plain ws → text_words (length ws) (words_text ws) ≡ Some ws
 unfolding text_words
 words_again [] h = refl
 words_again (w ∷ ws) h =
-    ap (λ (t : List ℕ). both (text_word t) (text_words (length ws) (drop 5 (word_text w ++ text_of ws)))) (take_at (word_text w) (text_of ws) 5 (length_text w))
-    ∙ ap (λ (t : List ℕ). both (text_word (word_text w)) (text_words (length ws) t)) (drop_at (word_text w) (text_of ws) 5 (length_text w))
-    ∙ ap (λ (o : Option Word). both o (text_words (length ws) (text_of ws))) (word_again w h.0)
+    ap (λ (t : List ℕ). both (text_word t) (text_words (length ws) (drop 5 (word_text w ++ words_text ws)))) (take_at (word_text w) (words_text ws) 5 (length_text w))
+    ∙ ap (λ (t : List ℕ). both (text_word (word_text w)) (text_words (length ws) t)) (drop_at (word_text w) (words_text ws) 5 (length_text w))
+    ∙ ap (λ (o : Option Word). both o (text_words (length ws) (words_text ws))) (word_again w h.0)
     ∙ ap (both (Some w)) (words_again ws h.1)
 
 -- a card's text of 80 columns is padded with nothing
@@ -89,12 +89,12 @@ unfolding padded
 padded_full bs n = ap (λ (k : ℕ). bs ++ replicate k 32) (let e : 80 - length bs ≡ 0 = omega arith in e) ∙ append-nil bs
 
 -- sixteen plain words come back from their card
-pub card_again : (ws : List Word) → length ws ≡ 16 → AllByRecursion Plain ws → card_of (text_of ws) ≡ Some ws
+pub card_again : (ws : List Word) → length ws ≡ 16 → AllByRecursion Plain ws → card_of (words_text ws) ≡ Some ws
 card_again ws n h =
-    let l : length (text_of ws) ≡ 80 = omega (arith, length_texts ws) in
-    cond-true (leb (length (text_of ws)) 80) (text_words 16 (padded (text_of ws))) None (le-leb (length (text_of ws)) 80 (omega arith))
-    ∙ ap (text_words 16) (padded_full (text_of ws) l)
-    ∙ ap (λ (k : ℕ). text_words k (text_of ws)) (sym n)
+    let l : length (words_text ws) ≡ 80 = omega (arith, length_texts ws) in
+    cond-true (leb (length (words_text ws)) 80) (text_words 16 (padded (words_text ws))) None (le-leb (length (words_text ws)) 80 (omega arith))
+    ∙ ap (text_words 16) (padded_full (words_text ws) l)
+    ∙ ap (λ (k : ℕ). text_words k (words_text ws)) (sym n)
     ∙ words_again ws h
 
 -- a text is read where each of its bytes has a code
@@ -103,7 +103,7 @@ unfolding text_words
 some_words zero bs l = sym (ap all_coded (nil_from_length bs l))
 some_words (suc n) bs l =
     some_both (text_word (take 5 bs)) (text_words n (drop 5 bs))
-    ∙ ap (λ (t : Bool). t && is_some (text_words n (drop 5 bs))) (some_mapped (word_from Plus) (codes_of (take 5 bs)) ∙ some_codes (take 5 bs))
+    ∙ ap (λ (t : Bool). t && is_some (text_words n (drop 5 bs))) (some_mapped (word_from Plus) (text_codes (take 5 bs)) ∙ some_codes (take 5 bs))
     ∙ ap (λ (t : Bool). all_coded (take 5 bs) && t) (some_words n (drop 5 bs) (length-drop 5 bs ∙ omega arith))
     ∙ sym (coded_append (take 5 bs) (drop 5 bs))
     ∙ ap all_coded (take-append-drop 5 bs)

@@ -6,7 +6,7 @@ use Rattle.std.specs.Option.{option_map}
 use Rattle.std.specs.List.{AllByRecursion}
 use Rattle.word.specs.Bytes.{are_bytes}
 use Rattle.card.specs.Table.{characters, character_of, code_of}
-use Rattle.card.specs.Text.{both, codes_of, padded, all_coded}
+use Rattle.card.specs.Text.{both, text_codes, padded, all_coded}
 use Rattle.card.proofs.Parts.{ahead}
 use Rattle.card.proofs.Rule.{undo}
 
@@ -16,11 +16,11 @@ pub record Coded (bs cs : List ℕ) : Type 0 where
   pub bytes : are_bytes cs ≡ true
   pub text : map character_of cs ≡ bs
 
-pub coded : (bs cs : List ℕ) → codes_of bs ≡ Some cs → Coded bs cs
+pub coded : (bs cs : List ℕ) → text_codes bs ≡ Some cs → Coded bs cs
 coded [] cs e = let f : [] ≡ cs = cc in record { long = sym (ap length f); bytes = sym (ap are_bytes f); text = sym (ap (map character_of) f) }
-coded (b ∷ bs) cs e = at (code_of b) (codes_of bs) refl refl e (coded bs)
+coded (b ∷ bs) cs e = at (code_of b) (text_codes bs) refl refl e (coded bs)
   where
-    at : (o : Option ℕ) (r : Option (List ℕ)) → code_of b ≡ o → codes_of bs ≡ r → both o r ≡ Some cs → ((ds : List ℕ) → codes_of bs ≡ Some ds → Coded bs ds) → Coded (b ∷ bs) cs
+    at : (o : Option ℕ) (r : Option (List ℕ)) → code_of b ≡ o → text_codes bs ≡ r → both o r ≡ Some cs → ((ds : List ℕ) → text_codes bs ≡ Some ds → Coded bs ds) → Coded (b ∷ bs) cs
     at None r p q g rec = let z : ◌≡◌ {A = ℕ} 0 1 = cc in absurd (omega arith)
     at (Some c) None p q g rec = let z : ◌≡◌ {A = ℕ} 0 1 = cc in absurd (omega arith)
     at (Some c) (Some ds) p q g rec =
@@ -34,14 +34,14 @@ coded (b ∷ bs) cs e = at (code_of b) (codes_of bs) refl refl e (coded bs)
         }
 
 -- one byte further in a text
-pub codes_step : (made bs : List ℕ) (i : ℕ) (o : Option ℕ) → i < length bs → o ≡ code_of (get_or bs i 0) → ahead made (codes_of (drop i bs)) ≡ codes_of bs → ahead made (both o (codes_of (drop (i + 1) bs))) ≡ codes_of bs
-codes_step made bs i o h e f = ap (λ (p : Option ℕ). ahead made (both p (codes_of (drop (i + 1) bs)))) e ∙ sym (ap (ahead made) (at_drop_more codes_of bs i 0 h)) ∙ f
+pub codes_step : (made bs : List ℕ) (i : ℕ) (o : Option ℕ) → i < length bs → o ≡ code_of (get_or bs i 0) → ahead made (text_codes (drop i bs)) ≡ text_codes bs → ahead made (both o (text_codes (drop (i + 1) bs))) ≡ text_codes bs
+codes_step made bs i o h e f = ap (λ (p : Option ℕ). ahead made (both p (text_codes (drop (i + 1) bs)))) e ∙ sym (ap (ahead made) (at_drop_more text_codes bs i 0 h)) ∙ f
 
 -- codes below 56 come back
-pub codes_again : (cs : List ℕ) → AllByRecursion (λ c. c < 56) cs → codes_of (map character_of cs) ≡ Some cs
+pub codes_again : (cs : List ℕ) → AllByRecursion (λ c. c < 56) cs → text_codes (map character_of cs) ≡ Some cs
 codes_again [] h = refl
 codes_again (c ∷ cs) h =
-    ap (λ (o : Option ℕ). both o (codes_of (map character_of cs))) (undo.code_again c h.0)
+    ap (λ (o : Option ℕ). both o (text_codes (map character_of cs))) (undo.code_again c h.0)
     ∙ ap (both (Some c)) (codes_again cs h.1)
 
 -- a text has codes where each of its bytes has one
@@ -55,9 +55,9 @@ pub some_mapped : {X Y : Type 0} (f : X → Y) (o : Option X) → is_some (optio
 some_mapped f None = refl
 some_mapped f (Some x) = refl
 
-pub some_codes : (bs : List ℕ) → is_some (codes_of bs) ≡ all_coded bs
+pub some_codes : (bs : List ℕ) → is_some (text_codes bs) ≡ all_coded bs
 some_codes [] = refl
-some_codes (b ∷ bs) = some_both (code_of b) (codes_of bs) ∙ ap (λ (t : Bool). is_some (code_of b) && t) (some_codes bs)
+some_codes (b ∷ bs) = some_both (code_of b) (text_codes bs) ∙ ap (λ (t : Bool). is_some (code_of b) && t) (some_codes bs)
 
 pub coded_append : (xs ys : List ℕ) → all_coded (xs ++ ys) ≡ (all_coded xs && all_coded ys)
 coded_append [] ys = refl

@@ -14,13 +14,13 @@ both (Some x) None = None
 both (Some x) (Some xs) = Some (x ∷ xs)
 
 -- the codes of a text; none where a byte has no code
-abbrev pub codes_of : List ℕ → Option (List ℕ)
-codes_of [] = Some []
-codes_of (b ∷ bs) = both (code_of b) (codes_of bs)
+abbrev pub text_codes : List ℕ → Option (List ℕ)
+text_codes [] = Some []
+text_codes (b ∷ bs) = both (code_of b) (text_codes bs)
 
 -- the plus word of five characters
 abbrev pub text_word : List ℕ → Option Word
-text_word bs = option_map (word_from Plus) (codes_of bs)
+text_word bs = option_map (word_from Plus) (text_codes bs)
 
 -- the characters of a word's bytes; the sign is left out
 abbrev pub word_text : Word → List ℕ
@@ -32,8 +32,8 @@ text_words zero bs = Some []
 text_words (suc n) bs = both (text_word (take 5 bs)) (text_words n (drop 5 bs))
 
 -- the text of words, one after the other
-abbrev pub text_of : List Word → List ℕ
-text_of ws = flat_map word_text ws
+abbrev pub words_text : List Word → List ℕ
+words_text ws = flat_map word_text ws
 
 -- a text with blanks after it, up to 80 columns
 unfoldable pub padded : List ℕ → List ℕ

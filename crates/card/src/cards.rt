@@ -2,7 +2,7 @@ ghost use Rattle.std.specs.Prelude.{◌≡◌, ◌*◌, ◌≤◌, length, is_so
 ghost use Rattle.std.specs.Option.{option_map};
 ghost use Rattle.std.specs.List.{AllByRecursion};
 ghost use Rattle.card.specs.Lines.{trimmed};
-ghost use Rattle.card.specs.Text.{text_words, text_of, padded, all_coded, sound, card_of, Plain};
+ghost use Rattle.card.specs.Text.{text_words, words_text, padded, all_coded, sound, card_of, Plain};
 
 use crate::words::{text_of, word_of};
 use word::{Sign, Word};
@@ -12,8 +12,8 @@ use word::{Sign, Word};
 pub fn read_card(text: &[u8]) -> Option<[Word; 16]>
     ensures words { result ≡ card_of text.now }
     ensures read { is_some result ≡ sound text.now }
-    ensures text { IfSome result (λ ws. text_of ws ≡ padded text.now) }
-    ensures same { IfSome result (λ ws. trimmed (text_of ws) ≡ trimmed text.now) }
+    ensures text { IfSome result (λ ws. words_text ws ≡ padded text.now) }
+    ensures same { IfSome result (λ ws. trimmed (words_text ws) ≡ trimmed text.now) }
 {
     if text.len() > 80 {
         return None;
@@ -23,7 +23,7 @@ pub fn read_card(text: &[u8]) -> Option<[Word; 16]>
 
 // The text that sixteen words punch.
 pub fn card_text(words: &[Word; 16]) -> [u8; 80]
-    ensures text { result ≡ text_of words.now }
+    ensures text { result ≡ words_text words.now }
     ensures back { AllByRecursion Plain words.now → card_of result ≡ Some words.now }
 {
     let mut card = [b' '; 80];
@@ -33,7 +33,7 @@ pub fn card_text(words: &[Word; 16]) -> [u8; 80]
 
 // The text that twenty-four words print.
 pub fn line_text(words: &[Word; 24]) -> [u8; 120]
-    ensures { result ≡ text_of words.now }
+    ensures { result ≡ words_text words.now }
 {
     let mut line = [b' '; 120];
     put_words(words, &mut line);
@@ -42,7 +42,7 @@ pub fn line_text(words: &[Word; 24]) -> [u8; 120]
 
 // A card read in and punched out again; none where it is damaged.
 pub fn reproduce(text: &[u8]) -> Option<[u8; 80]>
-    ensures text { result ≡ option_map text_of (card_of text.now) }
+    ensures text { result ≡ option_map words_text (card_of text.now) }
     ensures read { is_some result ≡ sound text.now }
     ensures columns { IfSome result (λ out. out ≡ padded text.now) }
     ensures same { IfSome result (λ out. trimmed out ≡ trimmed text.now) }
@@ -69,7 +69,7 @@ fn columns(text: &[u8]) -> [u8; 80]
 fn words_in(columns: &[u8; 80]) -> Option<[Word; 16]>
     ensures words { result ≡ text_words 16 columns.now }
     ensures coded { is_some result ≡ all_coded columns.now }
-    ensures text { IfSome result (λ ws. text_of ws ≡ columns.now) }
+    ensures text { IfSome result (λ ws. words_text ws ≡ columns.now) }
 {
     let mut words = [Word::wrapping(Sign::Plus, 0); 16];
     for i in 0..16 {
@@ -89,7 +89,7 @@ fn words_in(columns: &[u8; 80]) -> Option<[Word; 16]>
 // Writes the text of the words, five bytes for each.
 fn put_words(words: &[Word], out: &mut [u8])
     requires { length out.old ≡ 5 * length words.now }
-    ensures text { out.new ≡ text_of words.now }
+    ensures text { out.new ≡ words_text words.now }
     ensures back { length words.now ≡ 16 → AllByRecursion Plain words.now → card_of out.new ≡ Some words.now }
 {
     for (i, word) in words.iter().enumerate() {

@@ -21,6 +21,7 @@ pub fn code(character: u8) -> Option<u8>
 }
 
 // What the table has at a code.
+#[tactic(auto, using(crate::proofs::Rule::entry), unfolding(crate::specs::Table::characters))]
 fn entry(code: u8) -> u8
     requires { code < 56 }
     ensures { result ≡ character_of code }

@@ -2,7 +2,7 @@ ghost use Rattle.std.specs.Prelude.{◌≡◌, ◌<◌, true, map, IfSome, Some}
 ghost use Rattle.std.specs.List.{AllByRecursion};
 ghost use Rattle.word.specs.Bytes.{are_bytes};
 ghost use Rattle.card.specs.Table.{character_of};
-ghost use Rattle.card.specs.Text.{codes_of, text_word, word_text, Plain};
+ghost use Rattle.card.specs.Text.{text_codes, text_word, word_text, Plain};
 
 use crate::table::{character, code};
 use word::{Sign, Word};
@@ -26,7 +26,7 @@ pub fn text_of(word: Word) -> [u8; 5]
 
 // The codes of five characters; none where one has no code.
 fn codes_of(text: [u8; 5]) -> Option<[u8; 5]>
-    ensures value { result ≡ codes_of text }
+    ensures value { result ≡ text_codes text }
     ensures back { IfSome result (λ cs. (are_bytes cs ≡ true) × (map character_of cs ≡ text)) }
 {
     let mut codes = [0; 5];
@@ -39,7 +39,7 @@ fn codes_of(text: [u8; 5]) -> Option<[u8; 5]>
 // The characters of five bytes.
 fn spelled(bytes: [u8; 5]) -> [u8; 5]
     ensures text { result ≡ map character_of bytes }
-    ensures back { AllByRecursion (λ b. b < 56) bytes → codes_of result ≡ Some bytes }
+    ensures back { AllByRecursion (λ b. b < 56) bytes → text_codes result ≡ Some bytes }
 {
     let [a, b, c, d, e] = bytes;
     [

@@ -1,7 +1,7 @@
 -- The line of one card, and one card further.
 use Rattle.std.proofs.Common.{◌≡◌, ℕ, suc, ◌+◌, List, [], ◌∷◌, ◌++◌, Some, None, codes, decimal, Option, sym, refl, ap, ◌∙◌, add-one, arith}
 use Rattle.card.specs.Lines.{trimmed}
-use Rattle.card.specs.Text.{card_of, text_of}
+use Rattle.card.specs.Text.{card_of, words_text}
 use Rattle.copies.specs.Copies.{printed, damage, lines}
 use Rattle.std.proofs.lemmas.List.{append_assoc}
 use Rattle.std.specs.Option.{option_map}
@@ -12,13 +12,13 @@ pub record Line (n : ℕ) (o : Option (List Word)) (line : List ℕ) (bad : ℕ)
   pub count : bad ≡ damage o
 
 -- the line of a card that was punched
-pub punched : (n : ℕ) (o : Option (List Word)) (p : List ℕ) → Some p ≡ option_map text_of o → Line n o (trimmed p ++ (10 ∷ [])) 0
+pub punched : (n : ℕ) (o : Option (List Word)) (p : List ℕ) → Some p ≡ option_map words_text o → Line n o (trimmed p ++ (10 ∷ [])) 0
 unfolding printed
 punched n None p e = let z : ◌≡◌ {A = ℕ} 0 1 = cc in absurd (omega arith)
-punched n (Some ws) p e = let f : p ≡ text_of ws = cc in record { text = ap (λ (l : List ℕ). trimmed l ++ (10 ∷ [])) f; count = refl }
+punched n (Some ws) p e = let f : p ≡ words_text ws = cc in record { text = ap (λ (l : List ℕ). trimmed l ++ (10 ∷ [])) f; count = refl }
 
 -- the line of a damaged card
-pub spoilt : (n : ℕ) (o : Option (List Word)) → None ≡ option_map text_of o → Line n o (codes "DAMAGED " ++ (decimal n ++ (10 ∷ []))) 1
+pub spoilt : (n : ℕ) (o : Option (List Word)) → None ≡ option_map words_text o → Line n o (codes "DAMAGED " ++ (decimal n ++ (10 ∷ []))) 1
 unfolding printed
 spoilt n None e = record { text = refl; count = refl }
 spoilt n (Some ws) e = let z : ◌≡◌ {A = ℕ} 0 1 = cc in absurd (omega arith)

@@ -1,13 +1,13 @@
 -- What is printed of a text of cards.
 use Rattle.std.specs.Prelude.{ℕ, suc, ◌+◌, ◌-◌, List, [], ◌∷◌, ◌++◌, length, Some, None, codes, decimal, Option}
 use Rattle.card.specs.Lines.{cards_of, trimmed}
-use Rattle.card.specs.Text.{card_of, text_of}
+use Rattle.card.specs.Text.{card_of, words_text}
 use Rattle.word.specs.declared.word.Word.{Word}
 
 -- the line of the n-th card: what its words punch, without the blanks at the end, or that it is damaged
 unfoldable pub printed : ℕ → Option (List Word) → List ℕ
 printed n None = codes "DAMAGED " ++ (decimal n ++ (10 ∷ []))
-printed n (Some ws) = trimmed (text_of ws) ++ (10 ∷ [])
+printed n (Some ws) = trimmed (words_text ws) ++ (10 ∷ [])
 
 -- one where the card is damaged
 abbrev pub damage : Option (List Word) → ℕ

@@ -4,7 +4,7 @@ use Rattle.eval.specs.Eval.{and_then, as_number, value_of}
 use Rattle.instructions.specs.Instructions.{unless_known, future_of, as_address, a_word, up_to_bound, part_number, instruction_word, word_of_parts, assembled_word}
 use Rattle.mixal.specs.Assembled.{read_from}
 use Rattle.mixal.specs.Deck.{State, fresh, zero as zero_word, after_card, after_named, after_operation, after_remark, awaited_after, named_in, future_name, future_for, defined, loc_name, loc_word, a_part, made_with, is_end}
-use Rattle.mixal.specs.Ends.{Assembled, addressed, placed, is_loc}
+use Rattle.mixal.specs.Ends.{Assembled, addressed, placed, in_loc}
 use Rattle.mixal.specs.declared.draft.Made.{Made}
 use Rattle.mixal.specs.declared.draft.Made.TheVariants.{Nothing, Whole, Future}
 use Rattle.mixal.specs.declared.line.Line.{Line}
@@ -163,7 +163,7 @@ module _ (t : State) (c : List ℕ) (ds : List (List ℕ)) (a : Assembled) (i : 
   past_now v k = ap (option_map (λ codes. record { codes = codes })) (known_now t.symbols (a_part (address_of c)) cs v name k)
 
   -- it waits, unless the card's own LOC is that symbol
-  waits_now : known_as t.symbols n ≡ None → is_loc (loc_name c) n ≡ false → meaning_of (after_operation t c (Machine i)).symbols n ≡ Some Awaited
+  waits_now : known_as t.symbols n ≡ None → in_loc (loc_name c) n ≡ false → meaning_of (after_operation t c (Machine i)).symbols n ≡ Some Awaited
   waits_now k l =
       defined_keeps (named_in t.symbols (future_name t.symbols (address_of c))) (loc_name c) (word_of Plus t.here) n l
       ∙ ap (λ (o : Option Name). meaning_of (named_in t.symbols o) n) (future_now k)
@@ -175,9 +175,9 @@ module _ (t : State) (c : List ℕ) (ds : List (List ℕ)) (a : Assembled) (i : 
       at (Some Awaited) f h = ap (λ (o : Option Meaning). meaning_of (cond (is_some o) t.symbols (put name_before name_same t.symbols n Awaited)) n) f ∙ f
 
   pub settled_then : known_as t.symbols n ≡ None → Settled a.symbols n
-  settled_then k = at (is_loc (loc_name c) n) refl (by_operation t c (Machine i) r q).0
+  settled_then k = at (in_loc (loc_name c) n) refl (by_operation t c (Machine i) r q).0
     where
-      at : (b : Bool) → is_loc (loc_name c) n ≡ b → after_card t c ≡ after_operation t c (Machine i) → Settled a.symbols n
+      at : (b : Bool) → in_loc (loc_name c) n ≡ b → after_card t c ≡ after_operation t c (Machine i) → Settled a.symbols n
       at true f s =
           let w = low_word t.here in
           let l = p.low in

@@ -3,7 +3,7 @@ use Rattle.std.proofs.Common.{◌≡◌, ℕ, Bool, true, false, cond, not, ◌&
 use Rattle.mixal.specs.Assembled.{read_from}
 use Rattle.mixal.specs.Causes.{cause_of, is_known, ready_for}
 use Rattle.mixal.specs.Deck.{State, after_card, after_named, after_operation, after_remark, defined, named_in, future_for, loc_name, loc_word, is_end, is_end_of}
-use Rattle.mixal.specs.Ends.{Assembled, at_end, is_awaited, is_loc, waits, supplied_one, supplied_if, supplied}
+use Rattle.mixal.specs.Ends.{Assembled, at_end, is_awaited, in_loc, waits, supplied_one, supplied_if, supplied}
 use Rattle.mixal.specs.declared.cause.Cause.TheVariants.{DefinedTwice}
 use Rattle.names.specs.Names.{operation_of}
 use Rattle.mixal.proofs.Found.{ready}
@@ -57,15 +57,15 @@ named_keeps es (Some q) n m h = at (is_some (meaning_of es q)) (name_same q n) r
     at false false e f = put_elsewhere es q n Awaited f ∙ h
 
 -- and when another is defined
-pub defined_keeps : (es : Entries) (loc : Option Name) (w : Word) (n : Name) → is_loc loc n ≡ false → meaning_of (defined es loc w) n ≡ meaning_of es n
+pub defined_keeps : (es : Entries) (loc : Option Name) (w : Word) (n : Name) → in_loc loc n ≡ false → meaning_of (defined es loc w) n ≡ meaning_of es n
 defined_keeps es None w n h = refl
 defined_keeps es (Some m) w n h = put_elsewhere es m n (Defined w) h
 
 -- a name that is known is not in the LOC of a good card
-pub not_loc : (s : State) (c : List ℕ) (n : Name) (w : Word) → cause_of false s c ≡ None → is_remark c ≡ false → known_as s.symbols n ≡ Some w → is_loc (loc_name c) n ≡ false
+pub not_loc : (s : State) (c : List ℕ) (n : Name) (w : Word) → cause_of false s c ≡ None → is_remark c ≡ false → known_as s.symbols n ≡ Some w → in_loc (loc_name c) n ≡ false
 not_loc s c n w e r h = at (loc_name c) (ap (λ (b : Bool). not b && is_known s.symbols (loc_name c)) (sym r) ∙ free false s c e DefinedTwice)
   where
-    at : (loc : Option Name) → is_known s.symbols loc ≡ false → is_loc loc n ≡ false
+    at : (loc : Option Name) → is_known s.symbols loc ≡ false → in_loc loc n ≡ false
     at None f = refl
     at (Some m) f = on (name_same m n) refl
       where
@@ -74,7 +74,7 @@ not_loc s c n w e r h = at (loc_name c) (ap (λ (b : Bool). not b && is_known s.
         on false g = g
 
 -- a meaning after a card whose LOC is another name
-pub stays : (s : State) (c : List ℕ) (o : Operation) (n : Name) (m : Meaning) → is_loc (loc_name c) n ≡ false → meaning_of s.symbols n ≡ Some m → meaning_of (after_operation s c o).symbols n ≡ Some m
+pub stays : (s : State) (c : List ℕ) (o : Operation) (n : Name) (m : Meaning) → in_loc (loc_name c) n ≡ false → meaning_of s.symbols n ≡ Some m → meaning_of (after_operation s c o).symbols n ≡ Some m
 stays s c o n m l h =
     defined_keeps (named_in s.symbols (future_for s.symbols (address_of c) o)) (loc_name c) (loc_word s c o) n l
     ∙ named_keeps s.symbols (future_for s.symbols (address_of c) o) n m h
@@ -96,7 +96,7 @@ supplied_one_keeps loc s q n w h = at (waits s.symbols loc q) (name_same q n) re
     at false v e f = h
     at true false e f = put_elsewhere s.symbols q n (Defined _) f ∙ h
     at true true e f =
-        let p = and_parts (is_awaited (meaning_of s.symbols q)) (not (is_loc loc q)) e in
+        let p = and_parts (is_awaited (meaning_of s.symbols q)) (not (in_loc loc q)) e in
         let g = ap (λ (k : Name). is_awaited (meaning_of s.symbols k)) (sym (same_name q n f)) in
         absurd (both_ways _ (ap is_awaited h) (g ∙ p.0))
 

@@ -4,7 +4,7 @@ use Rattle.mixal.proofs.Found.{ready}
 use Rattle.mixal.specs.Assembled.{read_from}
 use Rattle.mixal.specs.Causes.{cause_of, out_of_range, on_operation, ready_for, is_location, suits, loc_awaited}
 use Rattle.mixal.specs.Deck.{State, zero, after_card, after_named, after_operation, after_remark, awaited_after, named_in, future_for, loc_name, loc_word, here_after, is_end, is_end_of}
-use Rattle.mixal.specs.Ends.{Assembled, ended, at_end, is_awaited, is_loc, waits, supplied_one, supplied_if, supplied}
+use Rattle.mixal.specs.Ends.{Assembled, ended, at_end, is_awaited, in_loc, waits, supplied_one, supplied_if, supplied}
 use Rattle.mixal.specs.declared.cause.Cause.TheVariants.{Range}
 use Rattle.names.specs.Names.{operation_of}
 use Rattle.names.specs.declared.kinds.Operation.{Operation}
@@ -100,7 +100,7 @@ loc_short s c Alf n l d f m e = let h = low_word s.here in omega arith
 loc_short s c End n l d f m e = absurd (both_ways _ d refl)
 
 -- the name in LOC, told by the test
-pub loc_is : (loc : Option Name) (n : Name) → is_loc loc n ≡ true → loc ≡ Some n
+pub loc_is : (loc : Option Name) (n : Name) → in_loc loc n ≡ true → loc ≡ Some n
 loc_is None n h = absurd (both_ways _ refl h)
 loc_is (Some m) n h = ap Some (same_name m n h)
 
@@ -128,7 +128,7 @@ pub record Supplied (es : Entries) (n : Name) (bound : ℕ) : Type 0 where
   pub means : meaning_of es n ≡ Some (Defined (word_of Plus location))
   pub under : location ≤ bound
 
-supply_name : (loc : Option Name) (ns : List Name) (s : State) (n : Name) → is_loc loc n ≡ false → meaning_of s.symbols n ≡ Some Awaited → Member n ns → Supplied (supplied loc ns s).symbols n (supplied loc ns s).here
+supply_name : (loc : Option Name) (ns : List Name) (s : State) (n : Name) → in_loc loc n ≡ false → meaning_of s.symbols n ≡ Some Awaited → Member n ns → Supplied (supplied loc ns s).symbols n (supplied loc ns s).here
 supply_name loc [] s n l h m = absurd m
 supply_name loc (q ∷ qs) s n l h m = at (name_same q n) refl (supply_name loc qs (supplied_if loc s q) n l)
   where
@@ -136,7 +136,7 @@ supply_name loc (q ∷ qs) s n l h m = at (name_same q n) refl (supply_name loc 
     at true e rec =
         let k = same_name q n e in
         let w : waits s.symbols loc q ≡ true =
-        ap (λ (v : Name). waits s.symbols loc v) k ∙ ap (λ (v : Option Meaning). is_awaited v && not (is_loc loc n)) h ∙ ap not l
+        ap (λ (v : Name). waits s.symbols loc v) k ∙ ap (λ (v : Option Meaning). is_awaited v && not (in_loc loc n)) h ∙ ap not l
         in
         let t : supplied_if loc s q ≡ supplied_one s q = ap (λ (b : Bool). cond b (supplied_one s q) s) w in
         let d : meaning_of (supplied_if loc s q).symbols n ≡ Some (Defined (word_of Plus s.here)) =
@@ -157,7 +157,7 @@ supply_name loc (q ∷ qs) s n l h m = at (name_same q n) refl (supply_name loc 
 
 -- END settles a name that waits
 end_settles : (s : State) (c : List ℕ) (n : Name) → cause_of false s c ≡ None → is_end c ≡ true → Pending s n → Settled (ended (length s.drafts) (at_end s c) c).symbols n
-end_settles s c n e f p = at (is_loc (loc_name c) n) refl (low (operation_of (op_of c)) refl refl)
+end_settles s c n e f p = at (in_loc (loc_name c) n) refl (low (operation_of (op_of c)) refl refl)
   where
     -- the location after the names supplied lies within memory and its end
     low : (o : Option Operation) → operation_of (op_of c) ≡ o → is_end_of (operation_of (op_of c)) ≡ is_end_of o → (at_end s c).here ≤ 4000
@@ -175,7 +175,7 @@ end_settles s c n e f p = at (is_loc (loc_name c) n) refl (low (operation_of (op
             let l = leb-false (suc 4000) (at_end s c).here k.0 in
             omega arith
 
-    at : (b : Bool) → is_loc (loc_name c) n ≡ b → (at_end s c).here ≤ 4000 → Settled (ended (length s.drafts) (at_end s c) c).symbols n
+    at : (b : Bool) → in_loc (loc_name c) n ≡ b → (at_end s c).here ≤ 4000 → Settled (ended (length s.drafts) (at_end s c) c).symbols n
     at true g l =
         let w = low_word (at_end s c).here in
         record {
@@ -197,7 +197,7 @@ end_settles s c n e f p = at (is_loc (loc_name c) n) refl (low (operation_of (op
 card_on : (s : State) (c : List ℕ) (n : Name) → s.here ≤ 4000 → cause_of false s c ≡ None → is_end c ≡ false → Pending s n → Pending (after_card s c) n ⊎ Settled (after_card s c).symbols n
 card_on s c n l e f p = at (is_remark c) (operation_of (op_of c)) refl refl
   where
-    on : (o : Operation) (b : Bool) → is_remark c ≡ false → operation_of (op_of c) ≡ Some o → is_loc (loc_name c) n ≡ b → Pending (after_operation s c o) n ⊎ Settled (after_operation s c o).symbols n
+    on : (o : Operation) (b : Bool) → is_remark c ≡ false → operation_of (op_of c) ≡ Some o → in_loc (loc_name c) n ≡ b → Pending (after_operation s c o) n ⊎ Settled (after_operation s c o).symbols n
     on o false r q g =
         inl (record {
           awaited = stays s c o n Awaited g p.awaited;
@@ -216,7 +216,7 @@ card_on s c n l e f p = at (is_remark c) (operation_of (op_of c)) refl refl
     at : (b : Bool) (o : Option Operation) → is_remark c ≡ b → operation_of (op_of c) ≡ o → Pending (cond b (after_remark s c) (after_named s c o)) n ⊎ Settled (cond b (after_remark s c) (after_named s c o)).symbols n
     at true o r q = inl (record { awaited = p.awaited; listed = p.listed })
     at false None r q = inl p
-    at false (Some o) r q = on o (is_loc (loc_name c) n) r q refl
+    at false (Some o) r q = on o (in_loc (loc_name c) n) r q refl
 
 -- a value stays to the end
 pub settled_all : (s : State) (cs : List (List ℕ)) (a : Assembled) (n : Name) → read_from s cs ≡ Ok a → Settled s.symbols n → Settled a.symbols n

@@ -23,11 +23,11 @@ abbrev pub defined_text : Name → Option Word → List ℕ
 defined_text n None = []
 defined_text n (Some w) = symbol_line n.codes w
 
-abbrev pub symbol_text : Name × Meaning → List ℕ
-symbol_text p = defined_text p.0 (word_in p.1)
+abbrev pub entry_text : Name × Meaning → List ℕ
+entry_text p = defined_text p.0 (word_in p.1)
 
 abbrev pub symbol_lines_of : List (Name × Meaning) → List ℕ
-symbol_lines_of es = flat_map symbol_text es
+symbol_lines_of es = flat_map entry_text es
 
 -- the text stands at the buffer's front and its length is told, what follows it stays; or it is longer than
 -- the buffer, or memory is wanting, and the buffer stays as it was

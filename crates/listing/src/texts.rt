@@ -1,5 +1,5 @@
 ghost use Rattle.std.specs.Prelude.{◌≡◌, ◌++◌, IfOk, OnOk};
-ghost use Rattle.listing.specs.Listing.{line_text, listing_of, symbol_text, symbol_lines_of};
+ghost use Rattle.listing.specs.Listing.{line_text, listing_of, entry_text, symbol_lines_of};
 ghost use Rattle.mixal.specs.Model.{assembled};
 
 use lines::{list_line, symbol_text};
@@ -49,7 +49,7 @@ fn all_symbols(heap: Global, symbols: &[(Name, Meaning)]) -> Result<Vec<u8>, All
 }
 
 fn add_symbol(out: &mut Vec<u8>, name: Name, meaning: Meaning) -> Result<(), AllocError>
-    ensures { OnOk result (out.new.items ≡ out.old.items ++ symbol_text (name, meaning)) }
+    ensures { OnOk result (out.new.items ≡ out.old.items ++ entry_text (name, meaning)) }
 {
     match meaning.word() {
         Some(word) => out.extend_from_slice(&symbol_text(name.codes, word)),

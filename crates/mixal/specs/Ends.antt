@@ -23,13 +23,14 @@ abbrev pub is_awaited : Option Meaning → Bool
 is_awaited None = false
 is_awaited (Some m) = not (is_some (word_in m))
 
-abbrev pub is_loc : Option Name → Name → Bool
-is_loc None n = false
-is_loc (Some m) n = name_same m n
+-- whether a name is the symbol in LOC
+abbrev pub in_loc : Option Name → Name → Bool
+in_loc None n = false
+in_loc (Some m) n = name_same m n
 
 -- whether a name waits at END, but for the one that END's LOC defines
 abbrev pub waits : List (Name × Meaning) → Option Name → Name → Bool
-waits es loc n = is_awaited (meaning_of es n) && not (is_loc loc n)
+waits es loc n = is_awaited (meaning_of es n) && not (in_loc loc n)
 
 -- no card
 abbrev pub blank : List ℕ

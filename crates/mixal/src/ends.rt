@@ -1,7 +1,7 @@
 ghost use Rattle.std.specs.Prelude.{◌≡◌, ◌+◌, ◌≤◌, true, List, [], ◌∷◌, ◌++◌, map, length, IfOk, None, OnOk};
 ghost use Rattle.card.specs.Text.{padded};
 ghost use Rattle.mixal.specs.Deck.{state_of};
-ghost use Rattle.mixal.specs.Ends.{is_loc, waits, supplied_if, supplied, addressed, placed, resolved, ended};
+ghost use Rattle.mixal.specs.Ends.{in_loc, waits, supplied_if, supplied, addressed, placed, resolved, ended};
 ghost use Rattle.mixal.specs.Image.{with_placed, image_of};
 ghost use Rattle.mixal.specs.Steps.{Read, ended_if};
 ghost use Rattle.mixal.specs.Model.{model_of, assembled, Answers};
@@ -29,7 +29,7 @@ use wvalues::w_value;
 
 // Whether a name is the one that LOC defines.
 fn is_loc_name(loc: Option<Name>, name: Name) -> bool
-    ensures { result ≡ is_loc loc name }
+    ensures { result ≡ in_loc loc name }
 {
     match loc {
         Some(loc) => loc == name,

@@ -6,7 +6,7 @@ use Rattle.std.proofs.lemmas.Bool.Decides.{nat_tests}
 use Rattle.std.specs.Option.{option_map}
 use Rattle.card.specs.Lines.{trimmed}
 use Rattle.card.specs.Table.{characters, character_of, code_of, run_code}
-use Rattle.card.specs.Text.{codes_of, all_coded}
+use Rattle.card.specs.Text.{text_codes, all_coded}
 use Rattle.card.proofs.Blanks.{trim_blanks}
 use Rattle.card.proofs.Codes.{coded, some_codes}
 use Rattle.card.proofs.Parts.{ahead}
@@ -49,7 +49,7 @@ pub symbol_short : (bs : List ℕ) → is_symbol bs ≡ true → length bs ≤ 1
 symbol_short bs h = leb-true (length bs) 10 (and_parts (leb (length bs) 10) (all_marks bs && any_letter bs) h).0
 
 -- a symbol has codes
-pub symbol_coded : (bs : List ℕ) → is_symbol bs ≡ true → is_some (codes_of bs) ≡ true
+pub symbol_coded : (bs : List ℕ) → is_symbol bs ≡ true → is_some (text_codes bs) ≡ true
 symbol_coded bs h = some_codes bs ∙ marks_coded bs (symbol_marks bs h)
 
 -- the zeros after the codes that are written
@@ -68,9 +68,9 @@ zero_blanks zero = refl
 zero_blanks (suc n) = ap (λ (l : List ℕ). 32 ∷ l) (zero_blanks n)
 
 -- the ten codes that were written
-pub named : (bs cs : List ℕ) (i : ℕ) → i ≡ length bs → drop i cs ≡ replicate (10 - i) 0 → ahead (take i cs) (codes_of (drop i bs)) ≡ codes_of bs → Some cs ≡ option_map ten_of (codes_of bs)
+pub named : (bs cs : List ℕ) (i : ℕ) → i ≡ length bs → drop i cs ≡ replicate (10 - i) 0 → ahead (take i cs) (text_codes (drop i bs)) ≡ text_codes bs → Some cs ≡ option_map ten_of (text_codes bs)
 named bs cs i n z e =
-    let f : codes_of bs ≡ Some (take i cs) = sym e ∙ ap (ahead (take i cs)) (at_drop_all codes_of bs i (omega arith)) ∙ ap Some (append-nil (take i cs)) in
+    let f : text_codes bs ≡ Some (take i cs) = sym e ∙ ap (ahead (take i cs)) (at_drop_all text_codes bs i (omega arith)) ∙ ap Some (append-nil (take i cs)) in
     let k = coded bs (take i cs) f in
     ap Some (sym (take-append-drop i cs) ∙ ap (λ (l : List ℕ). take i cs ++ l) (z ∙ ap (λ (j : ℕ). replicate (10 - j) 0) (n ∙ sym k.long))) ∙ sym (ap (option_map ten_of) f)
 
@@ -82,9 +82,9 @@ ten_text bs cs e =
 
 -- a name's codes give its text back
 pub name_back : (bs cs : List ℕ) → name_of bs ≡ Some cs → trimmed (map character_of cs) ≡ bs
-name_back bs cs e = at (is_symbol bs) refl (codes_of bs) refl e
+name_back bs cs e = at (is_symbol bs) refl (text_codes bs) refl e
   where
-    at : (t : Bool) → is_symbol bs ≡ t → (o : Option (List ℕ)) → codes_of bs ≡ o → cond t (option_map ten_of o) None ≡ Some cs → trimmed (map character_of cs) ≡ bs
+    at : (t : Bool) → is_symbol bs ≡ t → (o : Option (List ℕ)) → text_codes bs ≡ o → cond t (option_map ten_of o) None ≡ Some cs → trimmed (map character_of cs) ≡ bs
     at false p o q f = let z : ◌≡◌ {A = ℕ} 0 1 = cc in absurd (omega arith)
     at true p None q f = let z : ◌≡◌ {A = ℕ} 0 1 = cc in absurd (omega arith)
     at true p (Some ds) q f =
@@ -95,5 +95,5 @@ name_back bs cs e = at (is_symbol bs) refl (codes_of bs) refl e
 pub name_alone : (bs cs ds : List ℕ) → name_of bs ≡ Some cs → name_of ds ≡ Some cs → ds ≡ bs
 name_alone bs cs ds e f = sym (name_back ds cs f) ∙ name_back bs cs e
 
-pub symbol_name : (bs cs : List ℕ) → is_symbol bs ≡ true → Some cs ≡ option_map ten_of (codes_of bs) → name_of bs ≡ Some cs
-symbol_name bs cs h e = ap (λ (t : Bool). cond t (option_map ten_of (codes_of bs)) None) h ∙ sym e
+pub symbol_name : (bs cs : List ℕ) → is_symbol bs ≡ true → Some cs ≡ option_map ten_of (text_codes bs) → name_of bs ≡ Some cs
+symbol_name bs cs h e = ap (λ (t : Bool). cond t (option_map ten_of (text_codes bs)) None) h ∙ sym e

@@ -1,7 +1,7 @@
 -- Symbols and their codes.
 use Rattle.std.specs.Prelude.{ℕ, ◌-◌, Bool, true, false, cond, ◌&&◌, ◌||◌, List, [], ◌∷◌, ◌++◌, length, replicate, None, Option, nat_le}
 use Rattle.std.specs.Option.{option_map}
-use Rattle.card.specs.Text.{codes_of}
+use Rattle.card.specs.Text.{text_codes}
 
 -- a letter, A to Z
 abbrev pub is_letter : ℕ → Bool
@@ -35,4 +35,4 @@ ten_of cs = cs ++ replicate (10 - length cs) 0
 
 -- the codes of a symbol's characters; none where the text is no symbol
 abbrev pub name_of : List ℕ → Option (List ℕ)
-name_of bs = cond (is_symbol bs) (option_map ten_of (codes_of bs)) None
+name_of bs = cond (is_symbol bs) (option_map ten_of (text_codes bs)) None

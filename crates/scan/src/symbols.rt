@@ -2,7 +2,7 @@ ghost use Rattle.std.specs.Prelude.{◌≡◌, ℕ, true, List, map, is_some, If
 ghost use Rattle.std.specs.Option.{option_map};
 ghost use Rattle.card.specs.Lines.{trimmed};
 ghost use Rattle.card.specs.Table.{character_of};
-ghost use Rattle.card.specs.Text.{codes_of};
+ghost use Rattle.card.specs.Text.{text_codes};
 ghost use Rattle.scan.specs.Symbols.{is_letter, is_digit, is_mark, all_marks, any_letter, is_symbol, ten_of, name_of};
 
 use card::code;
@@ -76,7 +76,7 @@ fn any_letter(text: &[u8]) -> bool
 // The codes of a symbol's characters, and zeros after them.
 fn codes_of(text: &[u8]) -> Option<[u8; 10]>
     requires { is_symbol text.now ≡ true }
-    ensures codes { result ≡ option_map ten_of (codes_of text.now) }
+    ensures codes { result ≡ option_map ten_of (text_codes text.now) }
     ensures given { is_some result ≡ true }
     ensures back { IfSome result (λ cs. trimmed (map character_of cs) ≡ text.now) }
     ensures alone { IfSome result (λ cs. (bs : List ℕ) → name_of bs ≡ Some cs → bs ≡ text.now) }

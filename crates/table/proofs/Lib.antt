@@ -1,2 +1,3 @@
+pub mod Lex
 pub mod Ordered
 pub mod Orders

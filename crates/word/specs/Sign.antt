@@ -13,9 +13,9 @@ abbrev pub product : Sign → Sign → Sign
 product Plus s = s
 product Minus s = opposite s
 
--- whether two signs are the same
-abbrev pub same_sign : Sign → Sign → Bool
-same_sign Plus Plus = true
-same_sign Plus Minus = false
-same_sign Minus Plus = false
-same_sign Minus Minus = true
+-- whether two signs are like
+abbrev pub like : Sign → Sign → Bool
+like Plus Plus = true
+like Plus Minus = false
+like Minus Plus = false
+like Minus Minus = true

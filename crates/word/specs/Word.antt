@@ -5,7 +5,7 @@ use Rattle.word.specs.declared.sign.Sign.{Sign}
 use Rattle.word.specs.declared.sign.Sign.TheVariants.{Plus, Minus}
 use Rattle.word.specs.declared.word.Word.{Word}
 use Rattle.word.specs.Bytes.{packed, unpacked, are_bytes}
-use Rattle.word.specs.Sign.{opposite, same_sign}
+use Rattle.word.specs.Sign.{opposite, like}
 
 unfoldable pub small_rest : (m : ℕ) → m % 2 ^ 30 < 2 ^ 30
 small_rest m = omega arith
@@ -41,4 +41,4 @@ negative w = word_of (opposite w.sign) w.magnitude
 
 -- whether two words are the same: +0 and -0 are not
 abbrev pub same_word : Word → Word → Bool
-same_word a b = (a.magnitude == b.magnitude) && same_sign a.sign b.sign
+same_word a b = (a.magnitude == b.magnitude) && like a.sign b.sign

@@ -63,8 +63,8 @@ impl PartialEq for Word {
     ghost laws = { Prim.search (comparing, rules) };
 
     fn eq(&self, other: &Word) -> bool
-        ensures eq { result ≡ same_word self.now other.now }
-        ensures same { Decides result (self.now ≡ other.now) }
+        ensures test { result ≡ same_word self.now other.now }
+        ensures words { Decides result (self.now ≡ other.now) }
     {
         is_same(*self, *other)
     }
@@ -75,8 +75,8 @@ impl Eq for Word {
 }
 
 fn is_same(a: Word, b: Word) -> bool
-    ensures eq { result ≡ same_word a b }
-    ensures same { Decides result (a ≡ b) }
+    ensures test { result ≡ same_word a b }
+    ensures words { Decides result (a ≡ b) }
 {
     a.magnitude == b.magnitude && a.sign == b.sign
 }

@@ -1,7 +1,7 @@
 use Rattle.std.proofs.Common.{◌≡◌, length, take, drop}
-use Rattle.card.specs.Text.{codes_of}
+use Rattle.card.specs.Text.{text_codes}
 use Rattle.card.proofs.Parts.{ahead}
 use Rattle.card.proofs.words.codes_of.Given as goal
 
 abbrev pub invariant-loop-i : goal.invariant-loop-i
-invariant-loop-i l = (length l.codes ≡ 5) × (ahead (take l.i l.codes) (codes_of (drop l.i l.b-items)) ≡ codes_of l.b-items)
+invariant-loop-i l = (length l.codes ≡ 5) × (ahead (take l.i l.codes) (text_codes (drop l.i l.b-items)) ≡ text_codes l.b-items)

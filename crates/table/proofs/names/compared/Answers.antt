@@ -1,4 +1,4 @@
-use Rattle.table.specs.Lex.{lex_tells}
+use Rattle.table.proofs.Lex.{lex_tells}
 use Rattle.table.proofs.names.compared.Goals as goal
 
 pub returns : goal.returns
