@@ -5,7 +5,7 @@ ghost use Rattle.word.specs.Word.{value};
 use std::cmp::Ordering;
 use word::{Sign, Word};
 
-// Two words compared as numbers: +0 and -0 are equal.
+// Two words compared as numbers: +0 and -0 are equal. It is no `Ord` of words, since == tells these two apart.
 pub fn compare(a: Word, b: Word) -> Ordering
     ensures { MatchOrdering result (value a <ℤ value b) (value a ≡ value b) (value b <ℤ value a) }
 {

@@ -3,15 +3,18 @@
 
 mod compares;
 mod enters;
+mod pair;
 mod pairs;
 mod products;
+mod shift;
 mod shifts;
 mod sum;
 mod sums;
 
 pub use compares::compare;
 pub use enters::{enter, enter_negative};
-pub use products::{divide, multiply};
-pub use shifts::{sla, slax, slc, sra, srax, src};
+pub use pair::Pair;
+pub use products::{multiply, whole_product};
+pub use shift::Shift;
 pub use sum::Sum;
-pub use sums::{add, add_index, subtract, subtract_index};
+pub use sums::{add, add_index, subtract, subtract_index, total};

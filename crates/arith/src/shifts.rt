@@ -1,71 +1,63 @@
-ghost use Rattle.std.specs.Prelude.{◌≡◌, ◌-◌, ◌^◌, ◌<◌, ◌≤◌};
-ghost use Rattle.arith.specs.Pairs.{ten_bytes};
-ghost use Rattle.arith.specs.Shifts.{shifted_left, shifted_right, turned, rotated_left, rotated_right, sla_of, sra_of, slax_of, srax_of, slc_of, src_of};
+ghost use Rattle.std.specs.Prelude.{◌≡◌, ◌-◌, ◌^◌, ◌<◌, ◌≤◌, IfSome};
+ghost use Rattle.arith.specs.Pairs.{ten_bytes, pair_of};
+ghost use Rattle.arith.specs.Shifts.{shifted_left, shifted_right, turned, shifted_by, moving, moved, undoing};
 ghost use Rattle.word.specs.Bytes.{packed, unpacked};
-ghost use Rattle.word.specs.Word.{bytes_of};
+ghost use Rattle.word.specs.Word.{word_of, bytes_of};
 
-use crate::pairs::{join, split};
+use crate::pair::Pair;
+use crate::shift::Shift;
 use word::{Word, power};
 
-// The bytes of A move left by `count`; X stays.
-pub fn sla(a: Word, x: Word, count: u32) -> (Word, Word)
-    ensures words { result ≡ sla_of count a x }
-    ensures bytes { bytes_of result.0 ≡ shifted_left count (bytes_of a) }
-{
-    (
-        Word::wrapping(a.sign, left(u64::from(a.magnitude), 5, count)),
-        x,
-    )
-}
+impl Pair {
+    // A and X with their bytes moved by `count`: SLA and SRA move those of A, and X stays; the others
+    // move all ten. Both signs stay. SLC and SRC undo each other.
+    #[tactic(auto, using(crate::proofs::Moves::turned_twice))]
+    pub fn shifted(self, shift: Shift, count: u32) -> Pair
+        ensures pair { result ≡ shifted_by shift count self }
+        ensures bytes { moving shift result ≡ moved shift count (moving shift self) }
+        ensures sign_a { result.a.sign ≡ self.a.sign }
+        ensures sign_x { result.x.sign ≡ self.x.sign }
+        ensures undone { IfSome (undoing shift) (λ back. moved back count (moving back result) ≡ moving back self) }
+    {
+        // A match: the six kinds are a closed set, and each has a definition of its own.
+        match shift {
+            Shift::Sla => self.with_a(left(u64::from(self.a.magnitude), 5, count)),
+            Shift::Sra => self.with_a(right(u64::from(self.a.magnitude), 5, count)),
+            Shift::Slax => self.with_both(left(self.joint(), 10, count)),
+            Shift::Srax => self.with_both(right(self.joint(), 10, count)),
+            Shift::Slc => self.with_both(around(self.joint(), count % 10)),
+            Shift::Src => self.with_both(around(self.joint(), 10 - count % 10)),
+        }
+    }
 
-// The bytes of A move right by `count`; X stays.
-pub fn sra(a: Word, x: Word, count: u32) -> (Word, Word)
-    ensures words { result ≡ sra_of count a x }
-    ensures bytes { bytes_of result.0 ≡ shifted_right count (bytes_of a) }
-{
-    (
-        Word::wrapping(a.sign, right(u64::from(a.magnitude), 5, count)),
-        x,
-    )
-}
+    // The bytes of A replaced by those of a number; its sign and X stay.
+    fn with_a(self, number: u64) -> Pair
+        ensures pair { result ≡ record self { a = word_of self.a.sign number } }
+        ensures sign { result.a.sign ≡ self.a.sign }
+        ensures bytes { bytes_of result.a ≡ unpacked 5 number }
+    {
+        Pair {
+            a: Word::wrapping(self.a.sign, number),
+            ..self
+        }
+    }
 
-// The ten bytes of AX move left by `count`.
-pub fn slax(a: Word, x: Word, count: u32) -> (Word, Word)
-    ensures words { result ≡ slax_of count a x }
-    ensures bytes { ten_bytes result.0 result.1 ≡ shifted_left count (ten_bytes a x) }
-{
-    split(a.sign, x.sign, left(join(a, x), 10, count))
-}
-
-// The ten bytes of AX move right by `count`.
-pub fn srax(a: Word, x: Word, count: u32) -> (Word, Word)
-    ensures words { result ≡ srax_of count a x }
-    ensures bytes { ten_bytes result.0 result.1 ≡ shifted_right count (ten_bytes a x) }
-{
-    split(a.sign, x.sign, right(join(a, x), 10, count))
-}
-
-// The ten bytes of AX go round to the left by `count`; SRC undoes it.
-pub fn slc(a: Word, x: Word, count: u32) -> (Word, Word)
-    ensures words { result ≡ slc_of count a x }
-    ensures bytes { ten_bytes result.0 result.1 ≡ rotated_left count (ten_bytes a x) }
-    ensures undone { rotated_right count (ten_bytes result.0 result.1) ≡ ten_bytes a x }
-{
-    split(a.sign, x.sign, around(join(a, x), count % 10))
-}
-
-// The ten bytes of AX go round to the right by `count`; SLC undoes it.
-pub fn src(a: Word, x: Word, count: u32) -> (Word, Word)
-    ensures words { result ≡ src_of count a x }
-    ensures bytes { ten_bytes result.0 result.1 ≡ rotated_right count (ten_bytes a x) }
-    ensures undone { rotated_left count (ten_bytes result.0 result.1) ≡ ten_bytes a x }
-{
-    split(a.sign, x.sign, around_back(join(a, x), count % 10))
+    // All ten bytes replaced by those of a number; both signs stay.
+    fn with_both(self, number: u64) -> Pair
+        ensures pair { result ≡ pair_of self.a.sign self.x.sign number }
+        ensures sign_a { result.a.sign ≡ self.a.sign }
+        ensures sign_x { result.x.sign ≡ self.x.sign }
+        ensures bytes { ten_bytes result ≡ unpacked 10 number }
+    {
+        Pair::split(self.a.sign, self.x.sign, number)
+    }
 }
 
 // The number of `length` bytes moved left by `count`.
+#[tactic(auto, using(crate::proofs::Moves::left_number, crate::proofs::Moves::left_fits, crate::proofs::Moves::left_again))]
 fn left(number: u64, length: u32, count: u32) -> u64
-    requires { (length ≤ 10) × (number < 64 ^ length) }
+    requires short { length ≤ 10 }
+    requires small { number < 64 ^ length }
     ensures value { result ≡ packed (shifted_left count (unpacked length number)) }
     ensures bytes { unpacked length result ≡ shifted_left count (unpacked length number) }
 {
@@ -74,8 +66,10 @@ fn left(number: u64, length: u32, count: u32) -> u64
 }
 
 // The number of `length` bytes moved right by `count`.
+#[tactic(auto, using(crate::proofs::Moves::right_number, crate::proofs::Moves::right_again))]
 fn right(number: u64, length: u32, count: u32) -> u64
-    requires { (length ≤ 10) × (number < 64 ^ length) }
+    requires short { length ≤ 10 }
+    requires small { number < 64 ^ length }
     ensures value { result ≡ packed (shifted_right count (unpacked length number)) }
     ensures bytes { unpacked length result ≡ shifted_right count (unpacked length number) }
 {
@@ -83,22 +77,13 @@ fn right(number: u64, length: u32, count: u32) -> u64
 }
 
 // The number of ten bytes with the first `count` at the end.
+#[tactic(auto, using(crate::proofs::Moves::turned_number, crate::proofs::Moves::turned_fits, crate::proofs::Moves::turned_again))]
 fn around(number: u64, count: u32) -> u64
-    requires { (number < 64 ^ 10) × (count ≤ 10) }
+    requires small { number < 64 ^ 10 }
+    requires within { count ≤ 10 }
     ensures value { result ≡ packed (turned count (unpacked 10 number)) }
     ensures bytes { unpacked 10 result ≡ turned count (unpacked 10 number) }
-    ensures undone { turned (10 - count) (unpacked 10 result) ≡ unpacked 10 number }
 {
     let back = power(10 - count);
     number % back * power(count) + number / back
-}
-
-// The number of ten bytes with the last `count` at the front.
-fn around_back(number: u64, count: u32) -> u64
-    requires { (number < 64 ^ 10) × (count ≤ 10) }
-    ensures value { result ≡ packed (turned (10 - count) (unpacked 10 number)) }
-    ensures bytes { unpacked 10 result ≡ turned (10 - count) (unpacked 10 number) }
-    ensures undone { turned count (unpacked 10 result) ≡ unpacked 10 number }
-{
-    around(number, 10 - count)
 }

@@ -1,7 +1,7 @@
-ghost use Rattle.std.specs.Prelude.{◌≡◌, false, ◌+ℤ◌, ◌-ℤ◌};
+ghost use Rattle.std.specs.Prelude.{◌≡◌, false, ◌^◌, ◌<◌, min, ◌+ℤ◌, ◌-ℤ◌};
 ghost use Rattle.arith.specs.Sums.{sum_word, sum_over, sum_sign, sum_size, IndexSum};
 ghost use Rattle.word.specs.Sign.{opposite};
-ghost use Rattle.word.specs.Word.{value, negative};
+ghost use Rattle.word.specs.Word.{value, negative, signed};
 
 use crate::sum::Sum;
 use word::{Index, Sign, Word};
@@ -13,9 +13,10 @@ pub fn add(register: Word, v: Word) -> Sum
     ensures number { result.overflow ≡ false → value result.word ≡ value register +ℤ value v }
     ensures zero { result.word.magnitude ≡ 0 → result.word.sign ≡ register.sign }
 {
-    let (sign, size) = total(register, v);
+    let (m, n) = (u64::from(register.magnitude), u64::from(v.magnitude));
+    let (sign, size) = total(register.sign, m, v.sign, n);
     Sum {
-        word: Word::wrapping(sign, u64::from(size)),
+        word: Word::wrapping(sign, size),
         overflow: size >= 0x4000_0000,
     }
 }
@@ -34,11 +35,11 @@ pub fn subtract(register: Word, v: Word) -> Sum
 pub fn add_index(register: Index, m: Word) -> Option<Index>
     ensures { IndexSum register m.sign m.magnitude result }
 {
-    let sum = add(register.to_word(), m);
+    let sum = add(Word::from(register), m);
     if sum.overflow {
         None
     } else {
-        Index::from_word(sum.word)
+        Index::try_from(sum.word).ok()
     }
 }
 
@@ -49,16 +50,19 @@ pub fn subtract_index(register: Index, m: Word) -> Option<Index>
     add_index(register, m.negated())
 }
 
-// The sign and the whole magnitude of a sum.
-fn total(register: Word, v: Word) -> (Sign, u32)
-    ensures sign { result.0 ≡ sum_sign register.sign register.magnitude v.sign v.magnitude }
-    ensures size { result.1 ≡ sum_size register.sign register.magnitude v.sign v.magnitude }
+// The sign and the magnitude of the sum of two numbers, of sign s and magnitude m and of t and n: at zero
+// the first's sign; a magnitude past a u64 is held at the largest.
+// A sign and a magnitude go as two, as in `Word::wrapping`: a struct would be made for one call and taken apart.
+pub fn total(s: Sign, m: u64, t: Sign, n: u64) -> (Sign, u64)
+    ensures sign { result.0 ≡ sum_sign s m t n }
+    ensures size { result.1 ≡ min (sum_size s m t n) u64.MAX }
+    ensures number { sum_size s m t n < 2 ^ 64 → signed result.0 result.1 ≡ signed s m +ℤ signed t n }
 {
-    if register.sign == v.sign {
-        (register.sign, register.magnitude + v.magnitude)
-    } else if v.magnitude <= register.magnitude {
-        (register.sign, register.magnitude - v.magnitude)
+    if s == t {
+        (s, m.saturating_add(n))
+    } else if n <= m {
+        (s, m - n)
     } else {
-        (v.sign, v.magnitude - register.magnitude)
+        (t, n - m)
     }
 }

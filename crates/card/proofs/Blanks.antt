@@ -1,6 +1,6 @@
 -- Blanks at the end of a text.
-use Rattle.std.proofs.Common.{◌≡◌, ℕ, zero, suc, ◌+◌, ◌-◌, ◌<◌, ◌≤◌, Bool, true, false, cond, ◌&&◌, eqb, List, [], ◌∷◌, ◌++◌, length, get_or, take, replicate, sym, refl, ap, ◌∙◌, arith, length-append}
-use Rattle.std.proofs.lemmas.List.{append_assoc, append-nil, take_more}
+use Rattle.std.proofs.Common.{◌≡◌, ℕ, zero, suc, ◌+◌, ◌-◌, ◌<◌, Bool, true, false, cond, ◌&&◌, eqb, List, [], ◌∷◌, ◌++◌, length, get_or, take, replicate, sym, refl, ap, ◌∙◌, arith, length-append}
+use Rattle.std.proofs.lemmas.List.{append_assoc, append-nil, take_all, take_more}
 use Rattle.std.proofs.lemmas.Bool.{eqb-true, ne_eqb}
 use Rattle.card.specs.Lines.{trimmed}
 
@@ -26,11 +26,13 @@ trim_stays (x ∷ xs) b e =
     at true false f = refl
     at false t f = refl
 
-last_of : (xs : List ℕ) (n : ℕ) → 0 < n → n ≤ length xs → take n xs ≡ take (n - 1) xs ++ get_or xs (n - 1) 0 ∷ []
-last_of xs n h k = let e : n ≡ n - 1 + 1 = omega arith in ap (λ (m : ℕ). take m xs) e ∙ take_more xs (n - 1) 0 (omega arith)
+last_of : (xs : List ℕ) → 0 < length xs → xs ≡ take (length xs - 1) xs ++ get_or xs (length xs - 1) 0 ∷ []
+last_of xs h =
+    let e : length xs ≡ length xs - 1 + 1 = omega arith in
+    sym (take_all (length xs) xs (omega arith)) ∙ ap (λ (m : ℕ). take m xs) e ∙ take_more xs (length xs - 1) 0 (omega arith)
 
-pub trim_less : (xs : List ℕ) (n : ℕ) → 0 < n → n ≤ length xs → get_or xs (n - 1) 0 ≡ 32 → trimmed (take (n - 1) xs) ≡ trimmed (take n xs)
-trim_less xs n h k e = sym (trim_blank (take (n - 1) xs)) ∙ ap (λ (b : ℕ). trimmed (take (n - 1) xs ++ b ∷ [])) (sym e) ∙ ap trimmed (sym (last_of xs n h k))
+pub trim_less : (xs : List ℕ) → 0 < length xs → get_or xs (length xs - 1) 0 ≡ 32 → trimmed (take (length xs - 1) xs) ≡ trimmed xs
+trim_less xs h e = sym (trim_blank (take (length xs - 1) xs)) ∙ ap (λ (b : ℕ). trimmed (take (length xs - 1) xs ++ b ∷ [])) (sym e) ∙ ap trimmed (sym (last_of xs h))
 
-pub trim_done : (xs : List ℕ) (n : ℕ) → 0 < n → n ≤ length xs → (get_or xs (n - 1) 0 ≡ 32 → ⊥) → take n xs ≡ trimmed (take n xs)
-trim_done xs n h k e = last_of xs n h k ∙ sym (trim_stays (take (n - 1) xs) (get_or xs (n - 1) 0) (ne_eqb (get_or xs (n - 1) 0) 32 e)) ∙ ap trimmed (sym (last_of xs n h k))
+pub trim_done : (xs : List ℕ) → 0 < length xs → (get_or xs (length xs - 1) 0 ≡ 32 → ⊥) → xs ≡ trimmed xs
+trim_done xs h e = last_of xs h ∙ sym (trim_stays (take (length xs - 1) xs) (get_or xs (length xs - 1) 0) (ne_eqb (get_or xs (length xs - 1) 0) 32 e)) ∙ ap trimmed (sym (last_of xs h))

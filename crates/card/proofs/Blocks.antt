@@ -1,16 +1,19 @@
 -- Words of five characters and blocks of words, there and back.
-use Rattle.std.proofs.Common.{◌≡◌, ℕ, zero, suc, ◌+◌, ◌-◌, ◌*◌, ◌<◌, ◌≤◌, Bool, ◌&&◌, leb, List, [], ◌∷◌, ◌++◌, map, length, get_or, take, drop, replicate, is_some, Some, None, Option, sym, refl, ap, ◌∙◌, arith, length-append, length-drop}
-use Rattle.std.proofs.lemmas.List.{append-nil, flat_map_more, take_more, length-map, length-take-le, take-append-drop, take_at, drop_at, drop-drop, nil_from_length}
+use Rattle.std.proofs.Common.{◌≡◌, ℕ, zero, suc, ◌-◌, ◌*◌, ◌<◌, Bool, ◌&&◌, leb, List, [], ◌∷◌, ◌++◌, map, length, get_or, take, drop, replicate, is_some, Some, None, Option, subst, sym, refl, ap, ◌∙◌, arith, length-append, length-drop}
+use Rattle.std.proofs.lemmas.List.{append-nil, length-map, length-take-le, take-append-drop, take_at, drop_at, nil_from_length}
 use Rattle.std.proofs.lemmas.Bool.{le-leb, cond-true}
 use Rattle.std.specs.Option.{option_map}
-use Rattle.std.specs.List.{AllByRecursion}
+use Rattle.std.specs.Simd.{first_chunks}
+use Rattle.std.specs.List.{AllByRecursion, IsAmong}
+use Rattle.std.specs.Array.{AllZipBelow}
+use Rattle.std.specs.Prelude.{Result, Ok, Err, IfOk, IfErr}
+use Rattle.std.specs.Result.{result_ok}
 use Rattle.word.specs.declared.sign.Sign.TheVariants.{Plus}
 use Rattle.word.specs.declared.word.Word.{Word}
 use Rattle.word.specs.Word.{word_from, bytes_of}
 use Rattle.word.proofs.Same.{length_five, from_bytes_of, bytes_of_from}
 use Rattle.card.specs.Table.{character_of}
 use Rattle.card.specs.Text.{both, text_codes, text_word, word_text, text_words, words_text, padded, all_coded, card_of, Plain}
-use Rattle.card.proofs.Parts.{ahead}
 use Rattle.card.proofs.Codes.{coded, codes_again, some_both, some_mapped, some_codes, coded_append}
 
 -- five characters come back from their word
@@ -37,25 +40,31 @@ pub length_texts : (ws : List Word) → length (words_text ws) ≡ 5 * length ws
 length_texts [] = refl
 length_texts (w ∷ ws) = length-append (word_text w) (words_text ws) ∙ (let e = length_text w in let f = length_texts ws in omega arith)
 
--- one word further in a text
-words_more : (n i : ℕ) (bs : List ℕ) → i < n → text_words (n - i) (drop (5 * i) bs) ≡ both (text_word (take 5 (drop (5 * i) bs))) (text_words (n - (i + 1)) (drop (5 * (i + 1)) bs))
+-- the words of a text are those of its fives
+words_read : (n : ℕ) (bs : List ℕ) (ws : List Word) → length ws ≡ n → ((i : ℕ) → i < n → text_word (get_or (first_chunks 5 n bs) i []) ≡ Some (get_or ws i (word_from Plus []))) → text_words n bs ≡ Some ws
 unfolding text_words
-words_more n i bs h =
-    let e : n - i ≡ suc (n - (i + 1)) = omega arith in
-    let f : 5 * i + 5 ≡ 5 * (i + 1) = omega arith in
-    ap (λ (m : ℕ). text_words m (drop (5 * i) bs)) e
-    ∙ ap (λ (l : List ℕ). both (text_word (take 5 (drop (5 * i) bs))) (text_words (n - (i + 1)) l)) (drop-drop 5 (5 * i) bs ∙ ap (λ (m : ℕ). drop m bs) f)
+words_read zero bs ws l h = ap Some (sym (nil_from_length ws l))
+words_read (suc n) bs [] l h = absurd (omega arith)
+words_read (suc n) bs (w ∷ ws) l h = ap (λ (o : Option Word). both o (text_words n (drop 5 bs))) (h 0 (omega arith)) ∙ ap (both (Some w)) (words_read n (drop 5 bs) ws (omega arith) (λ i k. h (suc i) (omega arith)))
 
-pub words_step : (made : List Word) (bs : List ℕ) (n i : ℕ) (o : Option Word) → i < n → o ≡ text_word (take 5 (drop (5 * i) bs)) → ahead made (text_words (n - i) (drop (5 * i) bs)) ≡ text_words n bs → ahead made (both o (text_words (n - (i + 1)) (drop (5 * (i + 1)) bs))) ≡ text_words n bs
-words_step made bs n i o h e f = ap (λ (p : Option Word). ahead made (both p (text_words (n - (i + 1)) (drop (5 * (i + 1)) bs)))) e ∙ sym (ap (ahead made) (words_more n i bs h)) ∙ f
-
-pub words_end : (made : List Word) (bs : List ℕ) (n i : ℕ) → n ≤ i → ahead made (text_words (n - i) (drop (5 * i) bs)) ≡ ahead made (Some [])
+-- and there are none where one of the fives has no word
+words_none : (n : ℕ) (bs x : List ℕ) (i : ℕ) → i < length (first_chunks 5 n bs) → x ≡ get_or (first_chunks 5 n bs) i x → text_word x ≡ None → text_words n bs ≡ None
 unfolding text_words
-words_end made bs n i h = let e : n - i ≡ 0 = omega arith in ap (λ (m : ℕ). ahead made (text_words m (drop (5 * i) bs))) e
+words_none zero bs x i l e h = absurd (omega arith)
+words_none (suc n) bs x zero l e h = ap (λ (o : Option Word). both o (text_words n (drop 5 bs))) (ap text_word (sym e) ∙ h)
+words_none (suc n) bs x (suc i) l e h = ap (both (text_word (take 5 bs))) (words_none n (drop 5 bs) x i (omega arith) e h) ∙ at (text_word (take 5 bs))
+  where
+    at : (o : Option Word) → both o None ≡ None
+    at None = refl
+    at (Some w) = refl
 
--- the text of one more word
-pub texts_more : (ws : List Word) (i : ℕ) (w : Word) → i < length ws → w ≡ get_or ws i w → words_text (take i ws) ++ word_text w ≡ words_text (take (i + 1) ws)
-texts_more ws i w h e = flat_map_more word_text [] (take i ws) w ∙ ap (λ (v : Word). words_text (take i ws ++ v ∷ [])) e ∙ sym (ap words_text (take_more ws i w h))
+-- so each of the fives may be tried in turn
+pub words_tried : {E : Type 0} {R : List ℕ → Word → Type 0} {P : E → Type 0} (bs : List ℕ) (fs : List (List ℕ)) (r : Result (List Word) E) → fs ≡ first_chunks 5 16 bs → IfOk r (λ ws. AllZipBelow R fs ws 16) → IfErr r P → ((x : List ℕ) (w : Word) → R x w → text_word x ≡ Some w) → ((e : E) → P e → (x : List ℕ) × IsAmong fs x × (text_word x ≡ None)) → result_ok r ≡ text_words 16 bs
+words_tried bs fs (Ok ws) e a b f g =
+    sym (words_read 16 bs ws a.long (λ i k. ap (λ (l : List (List ℕ)). text_word (get_or l i [])) (sym e) ∙ f (get_or fs i []) (get_or ws i (word_from Plus [])) (a.at i [] (word_from Plus []) k)))
+words_tried bs fs (Err x) e a b f g =
+    let d = g x b in
+    sym (words_none 16 bs d.0 d.1.0 (subst (λ (l : List (List ℕ)). d.1.0 < length l) e d.1.1.0) (d.1.1.1 ∙ ap (λ (l : List (List ℕ)). get_or l d.1.0 d.0) e) d.2)
 
 -- a text comes back from its words
 pub words_back : (n : ℕ) (bs : List ℕ) (ws : List Word) → length bs ≡ 5 * n → text_words n bs ≡ Some ws → words_text ws ≡ bs

@@ -1,12 +1,12 @@
 -- The codes of a text, there and back.
-use Rattle.std.proofs.Common.{◌≡◌, ℕ, zero, suc, ◌+◌, ◌-◌, ◌<◌, Bool, true, false, ◌&&◌, ltb, List, [], ◌∷◌, ◌++◌, map, length, get_or, drop, replicate, is_some, Some, None, Option, sym, refl, ap, ◌∙◌, arith}
-use Rattle.std.proofs.lemmas.List.{at_drop_more}
-use Rattle.std.proofs.lemmas.Bool.{and_from, lt-ltb}
+use Rattle.std.proofs.Common.{◌≡◌, ℕ, zero, suc, ◌+◌, ◌-◌, ◌<◌, ◌≤◌, Bool, true, false, ◌&&◌, leb, ltb, List, [], ◌∷◌, ◌++◌, map, length, get_or, take, drop, set, replicate, is_some, Some, None, Option, sym, refl, ap, ◌∙◌, arith}
+use Rattle.std.proofs.lemmas.List.{at_drop_more, at_drop_all, append-nil, map-append, drop-drop, drop-replicate, drop-set-lt, take-append-drop}
+use Rattle.std.proofs.lemmas.Bool.{and_from, and_parts, cond-true, le-leb, lt-ltb}
 use Rattle.std.specs.Option.{option_map}
 use Rattle.std.specs.List.{AllByRecursion}
 use Rattle.word.specs.Bytes.{are_bytes}
 use Rattle.card.specs.Table.{characters, character_of, code_of}
-use Rattle.card.specs.Text.{both, text_codes, padded, all_coded}
+use Rattle.card.specs.Text.{both, text_codes, filled, codes_in, padded, all_coded}
 use Rattle.card.proofs.Parts.{ahead}
 use Rattle.card.proofs.Rule.{undo}
 
@@ -36,6 +36,66 @@ coded (b ∷ bs) cs e = at (code_of b) (text_codes bs) refl refl e (coded bs)
 -- one byte further in a text
 pub codes_step : (made bs : List ℕ) (i : ℕ) (o : Option ℕ) → i < length bs → o ≡ code_of (get_or bs i 0) → ahead made (text_codes (drop i bs)) ≡ text_codes bs → ahead made (both o (text_codes (drop (i + 1) bs))) ≡ text_codes bs
 codes_step made bs i o h e f = ap (λ (p : Option ℕ). ahead made (both p (text_codes (drop (i + 1) bs)))) e ∙ sym (ap (ahead made) (at_drop_more text_codes bs i 0 h)) ∙ f
+
+-- the zeros after the codes that are written
+zeros_less : (cs : List ℕ) (i x n : ℕ) → drop i cs ≡ replicate n 0 → drop (i + 1) (set cs i x) ≡ replicate (n - 1) 0
+zeros_less cs i x n e = drop-set-lt (i + 1) cs i x (omega arith) ∙ sym (drop-drop 1 i cs) ∙ ap (drop 1) e ∙ drop-replicate 1 n 0
+
+pub zeros_more : (n : ℕ) (cs : List ℕ) (i x : ℕ) → drop i cs ≡ replicate (n - i) 0 → drop (i + 1) (set cs i x) ≡ replicate (n - (i + 1)) 0
+zeros_more n cs i x e =
+    let k : n - i - 1 ≡ n - (i + 1) = omega arith in
+    zeros_less cs i x (n - i) e ∙ ap (λ (m : ℕ). replicate m 0) k
+
+-- a zero is a blank
+zero_blanks : (n : ℕ) → map character_of (replicate n 0) ≡ replicate n 32
+unfolding characters
+zero_blanks zero = refl
+zero_blanks (suc n) = ap (λ (l : List ℕ). 32 ∷ l) (zero_blanks n)
+
+-- zeros are bytes
+zero_bytes : (n : ℕ) → are_bytes (replicate n 0) ≡ true
+zero_bytes zero = refl
+zero_bytes (suc n) = zero_bytes n
+
+bytes_append : (xs ys : List ℕ) → are_bytes xs ≡ true → are_bytes ys ≡ true → are_bytes (xs ++ ys) ≡ true
+bytes_append [] ys h k = k
+bytes_append (x ∷ xs) ys h k =
+    let p = and_parts (ltb x 64) (are_bytes xs) h in
+    and_from (ltb x 64) (are_bytes (xs ++ ys)) p.0 (bytes_append xs ys p.1 k)
+
+-- what the codes of a text with zeros after them are
+pub record Filled (n : ℕ) (bs cs : List ℕ) : Type 0 where
+  pub value : Some cs ≡ codes_in n bs
+  pub bytes : are_bytes cs ≡ true
+  pub back : map character_of cs ≡ bs ++ replicate (n - length bs) 32
+
+-- all codes of a text are written
+pub written : (n : ℕ) (bs cs : List ℕ) (i : ℕ) → length bs ≤ n → i ≡ length bs → drop i cs ≡ replicate (n - i) 0 → ahead (take i cs) (text_codes (drop i bs)) ≡ text_codes bs → Filled n bs cs
+written n bs cs i h e z m =
+    let f : text_codes bs ≡ Some (take i cs) = sym m ∙ ap (ahead (take i cs)) (at_drop_all text_codes bs i (omega arith)) ∙ ap Some (append-nil (take i cs)) in
+    let k = coded bs (take i cs) f in
+    let g : cs ≡ filled n (take i cs) = sym (take-append-drop i cs) ∙ ap (λ (l : List ℕ). take i cs ++ l) (z ∙ ap (λ (j : ℕ). replicate (n - j) 0) (e ∙ sym k.long)) in
+    record {
+      value = ap Some g ∙ sym (ap (option_map (filled n)) f) ∙ sym (cond-true (leb (length bs) n) (option_map (filled n) (text_codes bs)) None (le-leb (length bs) n h));
+      bytes = ap are_bytes g ∙ bytes_append (take i cs) (replicate (n - length (take i cs)) 0) k.bytes (zero_bytes (n - length (take i cs)));
+      back =
+          ap (map character_of) g
+          ∙ map-append character_of (take i cs) (replicate (n - length (take i cs)) 0)
+          ∙ ap (λ (l : List ℕ). l ++ map character_of (replicate (n - length (take i cs)) 0)) k.text
+          ∙ ap (λ (l : List ℕ). bs ++ l) (zero_blanks (n - length (take i cs)) ∙ ap (λ (j : ℕ). replicate (n - j) 32) k.long);
+    }
+
+-- a byte of a short text has no code
+pub none_in : (n : ℕ) (bs : List ℕ) → length bs ≤ n → text_codes bs ≡ None → codes_in n bs ≡ None
+none_in n bs h e = cond-true (leb (length bs) n) (option_map (filled n) (text_codes bs)) None (le-leb (length bs) n h) ∙ ap (option_map (filled n)) e
+
+-- a text of n characters has no zeros after its codes
+pub codes_full : (n : ℕ) (bs : List ℕ) → length bs ≡ n → codes_in n bs ≡ text_codes bs
+codes_full n bs l = cond-true (leb (length bs) n) (option_map (filled n) (text_codes bs)) None (le-leb (length bs) n (omega arith)) ∙ at (text_codes bs) refl
+  where
+    at : (o : Option (List ℕ)) → text_codes bs ≡ o → option_map (filled n) o ≡ o
+    at None e = refl
+    at (Some cs) e = let r = coded bs cs e in let k : n - length cs ≡ 0 = omega (arith, r.long) in ap Some (ap (λ (j : ℕ). cs ++ replicate j 0) k ∙ append-nil cs)
 
 -- codes below 56 come back
 pub codes_again : (cs : List ℕ) → AllByRecursion (λ c. c < 56) cs → text_codes (map character_of cs) ≡ Some cs

@@ -1,6 +1,7 @@
 -- The rule of the character table: one test at its entries, and one at all bytes.
-use Rattle.std.proofs.Common.{◌≡◌, ℕ, zero, suc, ◌+◌, ◌<◌, Bool, true, false, ◌&&◌, eqb, ltb, length, get_or, Some, None, Option, sym, refl, ap, ◌∙◌, zero-add, arith}
-use Rattle.std.proofs.lemmas.Bool.{false≢true, eqb-true, eq-eqb, lt-ltb, cond-true}
+use Rattle.std.proofs.Common.{◌≡◌, ℕ, zero, suc, ◌+◌, ◌<◌, Bool, true, false, ◌&&◌, eqb, ltb, length, get_or, Some, None, Option, sym, refl, ap, ◌∙◌, zero-add, arith, ◌≤◌, ◌⊎◌, inl, inr}
+use Rattle.std.proofs.lemmas.List.{get_or_default, get_or_past}
+use Rattle.std.proofs.lemmas.Bool.{cases_lt, false≢true, eqb-true, eq-eqb, lt-ltb, le-ltb, cond-true, cond-false}
 use Rattle.std.proofs.lemmas.Bool.Decides.{Decides-below_and}
 use Rattle.card.specs.Table.{characters, character_of, code_of, run_code, Undo, Stands}
 use Rattle.card.proofs.Places.{place_some, place_none, every, every_at}
@@ -47,8 +48,16 @@ pub run_code_found : (b : ℕ) → b < 256 → run_code b ≡ code_of b
 run_code_found = (Decides-below_and (λ k. same (run_code k) (code_of k)) (λ k. run_code k ≡ code_of k) agree (λ k. (same_true (run_code k) (code_of k), true_same (run_code k) (code_of k))) refl (λ _. refl) 256).0 agrees
 
 -- below 56 the character is the table's entry
-pub entry : (c : ℕ) → c < 56 → character_of c ≡ get_or characters c 0
+entry : (c : ℕ) → c < 56 → character_of c ≡ get_or characters c 0
 entry c h = cond-true (ltb c 56) (get_or characters c 0) 32 (lt-ltb c 56 h)
+
+-- past the table's end it is a blank
+pub entry_or_blank : (c : ℕ) → get_or characters c 32 ≡ character_of c
+entry_or_blank c = at (cases_lt c 56)
+  where
+    at : (c < 56) ⊎ (56 ≤ c) → get_or characters c 32 ≡ character_of c
+    at (inl h) = get_or_default characters c 32 0 (omega (arith, long)) ∙ sym (entry c h)
+    at (inr h) = get_or_past characters c 32 (omega (arith, long)) ∙ sym (cond-false (ltb c 56) (get_or characters c 0) 32 (le-ltb c 56 h))
 
 code_found : (c : ℕ) → c < 56 → code_of (get_or characters c 0) ≡ Some c
 code_found c h =

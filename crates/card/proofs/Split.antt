@@ -1,7 +1,6 @@
 -- A text's first card.
-use Rattle.std.proofs.Common.{◌≡◌, ℕ, suc, ◌<◌, Bool, true, false, cond, eqb, List, [], ◌∷◌, length, take, drop, MatchBool, sym, refl, ap, ◌∙◌, subst, arith, length-drop}
-use Rattle.std.proofs.lemmas.List.{nil_from_length}
-use Rattle.std.proofs.lemmas.Bool.{eqb-true, eqb-false}
+use Rattle.std.proofs.Common.{◌≡◌, ℕ, suc, ◌<◌, Bool, true, false, cond, eqb, List, [], ◌∷◌, length, take, drop, sym, refl, ap, ◌∙◌, subst, arith, length-drop}
+use Rattle.std.proofs.lemmas.Bool.{eqb-false}
 use Rattle.std.specs.List.{AllByRecursion}
 use Rattle.card.specs.Lines.{up_to, line_of, rest_of, grown, cards_of, Split}
 
@@ -40,8 +39,3 @@ split bs c ds h p q =
       shorter = omega (arith, ap length q ∙ length-drop (suc (up_to 10 bs)) bs);
       whole = subst (λ (l : List ℕ). AllByRecursion (λ b. b ≡ 10 → ⊥) l) (sym p) (line_whole bs);
     }
-
--- only the empty text has no cards
-pub no_cards : (bs : List ℕ) (t : Bool) → t ≡ eqb (length bs) 0 → MatchBool t (cards_of bs ≡ []) (0 < length bs)
-no_cards bs true e = ap cards_of (nil_from_length bs (eqb-true (length bs) 0 (sym e)))
-no_cards bs false e = let h = eqb-false (length bs) 0 (sym e) in omega arith

@@ -18,6 +18,14 @@ abbrev pub text_codes : List ℕ → Option (List ℕ)
 text_codes [] = Some []
 text_codes (b ∷ bs) = both (code_of b) (text_codes bs)
 
+-- n codes: those given, and zeros after them
+abbrev pub filled : ℕ → List ℕ → List ℕ
+filled n cs = cs ++ replicate (n - length cs) 0
+
+-- the codes of n bytes at most, and zeros after them; none where a byte has no code, or there are more
+abbrev pub codes_in : ℕ → List ℕ → Option (List ℕ)
+codes_in n bs = cond (nat_le (length bs) n) (option_map (filled n) (text_codes bs)) None
+
 -- the plus word of five characters
 abbrev pub text_word : List ℕ → Option Word
 text_word bs = option_map (word_from Plus) (text_codes bs)

@@ -1,11 +1,13 @@
-ghost use Rattle.std.specs.Prelude.{◌≡◌, ◌*◌, ◌≤◌, length, is_some, IfSome, Some};
+ghost use Rattle.std.specs.Prelude.{◌≡◌, ◌*◌, ◌<◌, ◌≤◌, length, slice_index_or, is_some, IfSome, Some};
 ghost use Rattle.std.specs.Option.{option_map};
+ghost use Rattle.std.specs.Result.{result_ok};
 ghost use Rattle.std.specs.List.{AllByRecursion};
 ghost use Rattle.card.specs.Lines.{trimmed};
-ghost use Rattle.card.specs.Text.{text_words, words_text, padded, all_coded, sound, card_of, Plain};
+ghost use Rattle.card.specs.Text.{text_word, text_words, word_text, words_text, padded, all_coded, sound, card_of, Plain};
 
 use crate::words::{text_of, word_of};
-use word::{Sign, Word};
+use std::array;
+use word::Word;
 
 // The sixteen words of a card, blanks being added to its end; none where it is damaged:
 // it has over 80 bytes, or one without a code.
@@ -22,22 +24,19 @@ pub fn read_card(text: &[u8]) -> Option<[Word; 16]>
 }
 
 // The text that sixteen words punch.
+#[tactic(auto, using(crate::proofs::Blocks::card_again))]
 pub fn card_text(words: &[Word; 16]) -> [u8; 80]
     ensures text { result ≡ words_text words.now }
     ensures back { AllByRecursion Plain words.now → card_of result ≡ Some words.now }
 {
-    let mut card = [b' '; 80];
-    put_words(words, &mut card);
-    card
+    punched::<16, 80>(words)
 }
 
 // The text that twenty-four words print.
 pub fn line_text(words: &[Word; 24]) -> [u8; 120]
     ensures { result ≡ words_text words.now }
 {
-    let mut line = [b' '; 120];
-    put_words(words, &mut line);
-    line
+    punched::<24, 120>(words)
 }
 
 // A card read in and punched out again; none where it is damaged.
@@ -47,10 +46,8 @@ pub fn reproduce(text: &[u8]) -> Option<[u8; 80]>
     ensures columns { IfSome result (λ out. out ≡ padded text.now) }
     ensures same { IfSome result (λ out. trimmed out ≡ trimmed text.now) }
 {
-    match read_card(text) {
-        Some(words) => Some(card_text(&words)),
-        None => None,
-    }
+    let words = read_card(text)?;
+    Some(card_text(&words))
 }
 
 // The 80 columns of a card: its text, and blanks.
@@ -71,28 +68,30 @@ fn words_in(columns: &[u8; 80]) -> Option<[Word; 16]>
     ensures coded { is_some result ≡ all_coded columns.now }
     ensures text { IfSome result (λ ws. words_text ws ≡ columns.now) }
 {
-    let mut words = [Word::wrapping(Sign::Plus, 0); 16];
-    for i in 0..16 {
-        let k = 5 * i;
-        let five = [
-            columns[k],
-            columns[k + 1],
-            columns[k + 2],
-            columns[k + 3],
-            columns[k + 4],
-        ];
-        words[i] = word_of(five)?;
-    }
-    Some(words)
+    let (fives, _) = columns.as_chunks();
+    // There are sixteen fives, so this `?` never ends the function.
+    let fives: &[[u8; 5]; 16] = fives.first_chunk()?;
+    fives
+        .try_map(
+            |five| -> Result<Word, ()>
+                ensures { result_ok result ≡ text_word five }
+            { word_of(five).ok_or(()) },
+        )
+        .ok()
 }
 
-// Writes the text of the words, five bytes for each.
-fn put_words(words: &[Word], out: &mut [u8])
-    requires { length out.old ≡ 5 * length words.now }
-    ensures text { out.new ≡ words_text words.now }
-    ensures back { length words.now ≡ 16 → AllByRecursion Plain words.now → card_of out.new ≡ Some words.now }
+// The text of words in a row, five characters to a word.
+fn punched<const W: usize, const N: usize>(words: &[Word; W]) -> [u8; N]
+    requires { N ≡ 5 * W }
+    ensures { result ≡ words_text words.now }
 {
-    for (i, word) in words.iter().enumerate() {
-        out[5 * i..5 * i + 5].copy_from_slice(&text_of(*word));
-    }
+    let fives: [[u8; 5]; W] = array::from_fn(
+        |i| -> [u8; 5]
+            requires { i < W }
+            ensures { (d : Word) → result ≡ word_text (slice_index_or words.entry.now i d) }
+        { text_of(words[i]) },
+    );
+    let mut text = [b' '; N];
+    text.copy_from_slice(fives.as_flattened());
+    text
 }

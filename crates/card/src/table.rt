@@ -1,36 +1,21 @@
-ghost use Rattle.std.specs.Prelude.{◌≡◌, ◌<◌};
+ghost use Rattle.std.specs.Prelude.{◌≡◌};
 ghost use Rattle.card.specs.Table.{character_of, code_of, run_code, mark_code, Stands, Undo};
 
 // The characters of the codes 0 to 55.
 const CHARACTERS: &[u8; 56] = b" ABCDEFGHI~JKLMNOPQR[]STUVWXYZ0123456789.,()+-*/=$<>@;:'";
 
 // The character of a code; a byte above 55 is a blank.
+#[tactic(auto, using(crate::proofs::Rule::entry_or_blank), unfolding(crate::specs::Table::characters))]
 pub fn character(code: u8) -> u8
     ensures { result ≡ character_of code }
 {
-    if code > 55 { b' ' } else { entry(code) }
+    CHARACTERS.get(usize::from(code)).copied().unwrap_or(b' ')
 }
 
-// The code of a character, if it has one.
+// The code of a character, if it has one. The runs are told apart in a function of their own: a
+// `match` in this one has nine ends, and the check left the promises open at each.
+// No `TryFrom`: that needs a type of the codes alone, and callers have bytes.
 pub fn code(character: u8) -> Option<u8>
-    ensures value { result ≡ code_of character }
-    ensures back { Stands character result }
-    ensures rule { Undo }
-{
-    place(character)
-}
-
-// What the table has at a code.
-#[tactic(auto, using(crate::proofs::Rule::entry), unfolding(crate::specs::Table::characters))]
-fn entry(code: u8) -> u8
-    requires { code < 56 }
-    ensures { result ≡ character_of code }
-{
-    CHARACTERS[usize::from(code)]
-}
-
-// The place of a character in the table, which the runs give.
-fn place(character: u8) -> Option<u8>
     ensures value { result ≡ code_of character }
     ensures back { Stands character result }
     ensures rule { Undo }

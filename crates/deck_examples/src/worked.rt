@@ -1,7 +1,7 @@
 use word::Word;
 
 // What the worked examples of values give.
-#[derive(Clone, Copy)]
+#[derive(Clone, Copy, PartialEq, Eq, Debug)]
 pub struct WorkedValues {
     // an expression worked left to right
     pub expression: Option<Word>,

@@ -2,7 +2,7 @@
 use Rattle.std.proofs.Common.{◌≡◌, ℕ, suc, ◌+◌, ◌-◌, ◌^◌, ◌<◌, Bool, true, false, cond, ◌&&◌, ◌||◌, eqb, leb, List, [], ◌∷◌, length, take, drop, Some, None, Option, sym, refl, ap, ◌∙◌, mod-eq_of_lt, arith}
 use Rattle.arith.specs.Sums.{sum_sign, sum_size}
 use Rattle.card.specs.Text.{text_codes}
-use Rattle.eval.specs.Eval.{and_then, as_number, applied_to, value_of, worked_by}
+use Rattle.eval.specs.Eval.{as_number, applied_to, value_of, worked_by}
 use Rattle.scan.specs.Atoms.{sign_of, atom_of, front_of, word_of as atom_of_marks, either_of, digits_from, all_digits, run_of}
 use Rattle.scan.specs.Symbols.{is_letter, is_digit, is_mark, all_marks, any_letter, is_symbol, name_of, ten_of}
 use Rattle.scan.specs.Terms.{with_atom, on_term, more_of, terms_of}
@@ -13,7 +13,7 @@ use Rattle.scan.specs.declared.terms.Operator.TheVariants.{Plus as PlusOf, Minus
 use Rattle.std.proofs.lemmas.List.{take_all, drop_all}
 use Rattle.std.proofs.lemmas.Bool.{both_ways, and_parts, lt-ltb}
 use Rattle.std.proofs.lemmas.Bool.Decides.{nat_tests}
-use Rattle.std.specs.Option.{option_map}
+use Rattle.std.specs.Option.{option_map, option_and_then}
 use Rattle.symbols.specs.Symbols.{known_as}
 use Rattle.symbols.specs.declared.meaning.Meaning.{Meaning}
 use Rattle.table.specs.declared.name.Name.{Name}
@@ -126,5 +126,5 @@ zero_and u z =
 pub symbol_value : (es : List (Name × Meaning)) (here : ℕ) (bs cs : List ℕ) (v : Word) → name_of bs ≡ Some cs → known_as es (record { codes = cs }) ≡ Some v → value_of es here bs ≡ Some (as_number v)
 symbol_value es here bs cs v e k =
     ap (worked_by es here (word_of Plus 0)) (symbol_terms bs cs e)
-    ∙ ap (λ (o : Option Word). and_then (λ (w : Word). Some w) (applied_to PlusOf (word_of Plus 0) (option_map as_number o))) k
-    ∙ ap (and_then (λ (w : Word). Some w)) (zero_and (as_number v) (number_zero v))
+    ∙ ap (λ (o : Option Word). option_and_then (λ (w : Word). Some w) (applied_to PlusOf (word_of Plus 0) (option_map as_number o))) k
+    ∙ ap (option_and_then (λ (w : Word). Some w)) (zero_and (as_number v) (number_zero v))

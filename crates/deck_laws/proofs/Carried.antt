@@ -1,12 +1,11 @@
 -- An A-part that is one symbol carries the symbol's value.
 use Rattle.std.proofs.Common.{◌≡◌, ℕ, zero, suc, ◌<◌, ◌≤◌, Bool, true, false, cond, ◌&&◌, ◌||◌, eqb, leb, List, [], ◌∷◌, ◌++◌, length, get_or, is_some, Some, None, Ok, Option, unwrap_or, sym, refl, ap, ◌∙◌, subst, arith, leb-true}
-use Rattle.eval.specs.Eval.{and_then, as_number, value_of}
+use Rattle.eval.specs.Eval.{as_number, value_of}
 use Rattle.instructions.specs.Instructions.{unless_known, future_of, as_address, a_word, up_to_bound, part_number, instruction_word, word_of_parts, assembled_word}
 use Rattle.mixal.specs.Assembled.{read_from}
 use Rattle.mixal.specs.Deck.{State, fresh, zero as zero_word, after_card, after_named, after_operation, after_remark, awaited_after, named_in, future_name, future_for, defined, loc_name, loc_word, a_part, made_with, is_end}
 use Rattle.mixal.specs.Ends.{Assembled, addressed, placed, in_loc}
 use Rattle.mixal.specs.declared.draft.Made.{Made}
-use Rattle.mixal.specs.declared.draft.Made.TheVariants.{Nothing, Whole, Future}
 use Rattle.mixal.specs.declared.line.Line.{Line}
 use Rattle.names.proofs.Found.{name_laws}
 use Rattle.names.proofs.Rule.{right_at, is_fit}
@@ -18,7 +17,7 @@ use Rattle.scan.specs.Address.{parts_of}
 use Rattle.scan.specs.Columns.{is_remark, op_of, address_of}
 use Rattle.scan.specs.Symbols.{name_of}
 use Rattle.std.proofs.lemmas.Bool.{both_ways, or_parts, not-false, ne_eqb}
-use Rattle.std.specs.Option.{option_map}
+use Rattle.std.specs.Option.{option_map, option_and_then}
 use Rattle.symbols.specs.Symbols.{meaning_of, word_of_some, known_as}
 use Rattle.symbols.specs.declared.meaning.Meaning.{Meaning}
 use Rattle.symbols.specs.declared.meaning.Meaning.TheVariants.{Defined, Awaited}
@@ -53,13 +52,13 @@ part_bound es here n missing (Some text) x p q e = at (value_of es here text) e
     on w true false l f = let z : ◌≡◌ {A = ℕ} 0 1 = cc in absurd (omega arith)
     on w false c l f = let z : ◌≡◌ {A = ℕ} 0 1 = cc in absurd (omega arith)
 
-    at : (o : Option Word) → and_then (up_to_bound n) o ≡ Some x → x < 64
+    at : (o : Option Word) → option_and_then (up_to_bound n) o ≡ Some x → x < 64
     at None f = let z : ◌≡◌ {A = ℕ} 0 1 = cc in absurd (omega arith)
     at (Some w) f = on w (is_plus w.sign) (leb w.magnitude n) refl f
 
 -- the parts of an instruction joined
 abbrev join : ℕ → Option ℕ → Option ℕ → Option Word → Option Word
-join c index field a = and_then (λ (v : Word). and_then (λ (i : ℕ). option_map (λ (f : ℕ). instruction_word v i f c) field) index) a
+join c index field a = option_and_then (λ (v : Word). option_and_then (λ (i : ℕ). option_map (λ (f : ℕ). instruction_word v i f c) field) index) a
 
 join_address : (c : ℕ) (index field : Option ℕ) (a : Option Word) (u : Word) → c < 64 → ((x : ℕ) → index ≡ Some x → x < 64) → ((x : ℕ) → field ≡ Some x → x < 64) → a ≡ as_address u → is_some (join c index field a) ≡ true → address_in (unwrap_or (join c index field a) zero_word) ≡ u
 join_address c index field None u k p q e h = absurd (both_ways _ refl h)
@@ -80,16 +79,16 @@ filled (b ∷ bs) cs e = ne_eqb (suc (length bs)) 0 (λ z. omega arith)
 
 -- a symbol that is defined is no future one
 known_now : (es : Entries) (bs cs : List ℕ) (v : Word) → name_of bs ≡ Some cs → known_as es (record { codes = cs }) ≡ Some v → future_of es bs ≡ None
-known_now es bs cs v e k = ap (and_then (unless_known es)) e ∙ ap (λ (o : Option Word). cond (is_some o) None (Some cs)) k
+known_now es bs cs v e k = ap (option_and_then (unless_known es)) e ∙ ap (λ (o : Option Word). cond (is_some o) None (Some cs)) k
 
 -- the word of an instruction whose A-part is a symbol defined before
 past : (es : Entries) (here c missing : ℕ) (parts : Option (List ℕ × Option (List ℕ) × Option (List ℕ))) (cs : List ℕ) (v : Word) → c < 64 → missing < 64 → name_of (unwrap_or (option_map (λ p. p.0) parts) []) ≡ Some cs → known_as es (record { codes = cs }) ≡ Some v → is_some (word_of_parts es here c missing parts) ≡ true → address_in (unwrap_or (word_of_parts es here c missing parts) zero_word) ≡ as_number v
 past es here c missing None cs v p q e k h = absurd (both_ways _ refl h)
 past es here c missing (Some parts) cs v p q e k h =
     let a : a_word es here parts.0 ≡ as_address (as_number v) =
-    ap (λ (b : Bool). cond (b || is_some (future_of es parts.0)) (Some (word_of Plus 0)) (and_then as_address (value_of es here parts.0))) (filled parts.0 cs e)
-    ∙ ap (λ (o : Option (List ℕ)). cond (is_some o) (Some (word_of Plus 0)) (and_then as_address (value_of es here parts.0))) (known_now es parts.0 cs v e k)
-    ∙ ap (and_then as_address) (symbol_value es here parts.0 cs v e k)
+    ap (λ (b : Bool). cond (b || is_some (future_of es parts.0)) (Some (word_of Plus 0)) (option_and_then as_address (value_of es here parts.0))) (filled parts.0 cs e)
+    ∙ ap (λ (o : Option (List ℕ)). cond (is_some o) (Some (word_of Plus 0)) (option_and_then as_address (value_of es here parts.0))) (known_now es parts.0 cs v e k)
+    ∙ ap (option_and_then as_address) (symbol_value es here parts.0 cs v e k)
     in
     join_address c (part_number es here 6 0 parts.1) (part_number es here 63 missing parts.2) (a_word es here parts.0) (as_number v) p
     (λ x f. part_bound es here 6 0 parts.1 x (omega arith) (omega arith) f) (λ x f. part_bound es here 63 missing parts.2 x (omega arith) q f) a h
@@ -156,7 +155,7 @@ module _ (t : State) (c : List ℕ) (ds : List (List ℕ)) (a : Assembled) (i : 
 
   pub future_now : known_as t.symbols n ≡ None → future_name t.symbols (address_of c) ≡ Some n
   future_now k =
-      ap (λ (o : Option (List ℕ)). option_map (λ codes. record { codes = codes }) (and_then (unless_known t.symbols) o)) name
+      ap (λ (o : Option (List ℕ)). option_map (λ codes. record { codes = codes }) (option_and_then (unless_known t.symbols) o)) name
       ∙ ap (λ (o : Option Word). option_map (λ codes. record { codes = codes }) (cond (is_some o) None (Some cs))) k
 
   pub past_now : (v : Word) → known_as t.symbols n ≡ Some v → future_name t.symbols (address_of c) ≡ None
@@ -195,7 +194,7 @@ module _ (t : State) (c : List ℕ) (ds : List (List ℕ)) (a : Assembled) (i : 
   w = unwrap_or (assembled_word t.symbols t.here i.c i.f (address_of c)) zero_word
 
   pub made_is : made_by t c ≡ made_with t.here w (future_name t.symbols (address_of c))
-  made_is = ap (λ (b : Bool). cond b Nothing (made_named t c (operation_of (op_of c)))) r ∙ ap (made_named t c) q
+  made_is = ap (λ (b : Bool). cond b None (made_named t c (operation_of (op_of c)))) r ∙ ap (made_named t c) q
 
   pub past_address : (v : Word) → known_as t.symbols n ≡ Some v → address_in w ≡ as_number v
   past_address v k =
@@ -212,7 +211,7 @@ carries cards a e k t c rest i cs r m q name = at (known_as t.symbols (record { 
     s : Sound t
     s = sound_at fresh cards k t c rest a e fresh_sound r
 
-    line : (made : Made) → made_by t c ≡ made → (d : Line) → (get_or a.lines k d).at ≡ placed a.symbols made
+    line : (made : Option Made) → made_by t c ≡ made → (d : Line) → (get_or a.lines k d).at ≡ placed a.symbols made
     line made h d = ap (λ (x : Line). x.at) (shown cards a e k t c rest d r (not_end t c rest a i cs f s m q name)) ∙ ap (placed a.symbols) h
 
     word : Word
@@ -226,13 +225,13 @@ carries cards a e k t c rest i cs r m q name = at (known_as t.symbols (record { 
           known = known_all t (c ∷ rest) a (record { codes = cs }) v f h;
           location = t.here;
           word = word;
-          line = line (Whole t.here word) made;
+          line = line (made_with t.here word None) made;
           address = past_address t c rest a i cs f s m q name v h;
         }
     at None h =
         let d = settled_then t c rest a i cs f s m q name h in
         let made = made_is t c rest a i cs f s m q name ∙ ap (made_with t.here word) (future_now t c rest a i cs f s m q name h) in
-        let final = line (Future t.here (record { codes = cs }) word) made in
+        let final = line (made_with t.here word (Some (record { codes = cs }))) made in
         record {
           value = d.value;
           known = d.known;

@@ -7,3 +7,4 @@ pub mod Settled
 pub mod Alone
 pub mod Addressed
 pub mod Carried
+pub mod Answered

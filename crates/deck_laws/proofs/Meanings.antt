@@ -10,13 +10,12 @@ use Rattle.mixal.proofs.Found.{ready}
 use Rattle.names.specs.declared.kinds.Operation.{Operation}
 use Rattle.names.specs.declared.kinds.Operation.TheVariants.{Machine, Equ, Orig, Con, Alf, End}
 use Rattle.scan.specs.Columns.{is_remark, op_of, address_of}
-use Rattle.std.proofs.lemmas.Slice.Eq.{bytes_eq-Decides}
 use Rattle.std.proofs.lemmas.Bool.{both_ways, and_parts}
 use Rattle.symbols.specs.Symbols.{meaning_of, word_of_some, known_as}
 use Rattle.symbols.specs.declared.meaning.Meaning.{Meaning}
 use Rattle.symbols.specs.declared.meaning.Meaning.TheVariants.{Defined, Awaited}
 use Rattle.table.proofs.Ordered.{lookup_put, lookup_other}
-use Rattle.table.proofs.Orders.{name_order}
+use Rattle.table.proofs.Orders.{name_order, name_same-Decides}
 use Rattle.table.specs.Keys.{name_before, name_same}
 use Rattle.table.specs.Pairs.{put}
 use Rattle.table.specs.declared.name.Name.{Name}
@@ -28,7 +27,7 @@ abbrev pub Entries : Type 0
 Entries = List (Name × Meaning)
 
 pub same_name : (m n : Name) → name_same m n ≡ true → m ≡ n
-same_name m n h = ap (λ (cs : List ℕ). record { codes = cs }) ((bytes_eq-Decides m.codes n.codes).0 h)
+same_name m n h = (name_same-Decides m n).0 h
 
 -- a name has one meaning at a time
 pub put_there : (es : Entries) (n : Name) (v : Meaning) → meaning_of (put name_before name_same es n v) n ≡ Some v

@@ -10,11 +10,11 @@ use Rattle.names.specs.Names.{operation_of}
 use Rattle.names.specs.declared.kinds.Operation.{Operation}
 use Rattle.names.specs.declared.kinds.Operation.TheVariants.{Machine, Equ, Orig, Con, Alf, End}
 use Rattle.scan.specs.Columns.{is_remark, op_of, address_of}
-use Rattle.std.proofs.lemmas.Slice.Eq.{bytes_eq-Decides}
 use Rattle.std.proofs.lemmas.Bool.{both_ways, and_parts, or_parts, not-false}
 use Rattle.symbols.specs.Symbols.{meaning_of, word_of_some, known_as}
 use Rattle.symbols.specs.declared.meaning.Meaning.{Meaning}
 use Rattle.symbols.specs.declared.meaning.Meaning.TheVariants.{Defined, Awaited}
+use Rattle.table.proofs.Orders.{name_same-Decides}
 use Rattle.table.specs.Keys.{name_same}
 use Rattle.table.specs.declared.name.Name.{Name}
 use Rattle.word.proofs.Same.{word_of_magnitude}
@@ -152,7 +152,7 @@ supply_name loc (q ∷ qs) s n l h m = at (name_same q n) refl (supply_name loc 
         kept false = h
 
         later : Member n (q ∷ qs) → Member n qs
-        later (inl f) = absurd (both_ways _ e ((bytes_eq-Decides q.codes n.codes).1 (ap (λ (v : Name). v.codes) f)))
+        later (inl f) = absurd (both_ways _ e ((name_same-Decides q n).1 f))
         later (inr f) = f
 
 -- END settles a name that waits

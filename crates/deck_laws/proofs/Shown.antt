@@ -3,11 +3,10 @@ use Rattle.std.proofs.Common.{◌≡◌, ℕ, zero, suc, ◌+◌, ◌-◌, ◌<�
 use Rattle.card.specs.Text.{padded}
 use Rattle.mixal.specs.Assembled.{read_from}
 use Rattle.mixal.specs.Causes.{cause_of}
-use Rattle.mixal.specs.Deck.{State, fresh, zero as zero_word, after_card, after_named, after_remark, drafted, loc_name, is_end}
+use Rattle.mixal.specs.Deck.{State, fresh, zero as zero_word, after_card, after_named, after_remark, drafted, loc_name, is_end, made_with}
 use Rattle.mixal.specs.Ends.{Assembled, ended, at_end, supplied, supplied_if, supplied_one, waits, blank, placed, resolved}
 use Rattle.mixal.specs.declared.cause.Cause.TheVariants.{Operation as NoOperation}
 use Rattle.mixal.specs.declared.draft.Draft.{Draft}
-use Rattle.mixal.specs.declared.draft.Made.TheVariants.{Nothing, Whole}
 use Rattle.mixal.specs.declared.line.Line.{Line}
 use Rattle.names.specs.Names.{operation_of}
 use Rattle.names.specs.declared.kinds.Operation.{Operation}
@@ -23,7 +22,7 @@ use Rattle.deck_laws.proofs.Trace.{GoesOn, free, goes_on, from_card}
 pub adds : (s : State) (c : List ℕ) → cause_of false s c ≡ None → (after_card s c).drafts ≡ drafted s c (made_by s c)
 adds s c e = at (is_remark c) (operation_of (op_of c)) refl (free false s c e NoOperation)
   where
-    at : (b : Bool) (o : Option Operation) → is_remark c ≡ b → (not (is_remark c) && not (is_some o)) ≡ false → (cond b (after_remark s c) (after_named s c o)).drafts ≡ drafted s c (cond b Nothing (made_named s c o))
+    at : (b : Bool) (o : Option Operation) → is_remark c ≡ b → (not (is_remark c) && not (is_some o)) ≡ false → (cond b (after_remark s c) (after_named s c o)).drafts ≡ drafted s c (cond b None (made_named s c o))
     at true o h f = refl
     at false None h f = absurd (both_ways _ f (ap (λ (b : Bool). not b && true) h))
     at false (Some o) h f = refl
@@ -31,7 +30,7 @@ adds s c e = at (is_remark c) (operation_of (op_of c)) refl (free false s c e No
 -- the draft of a word that END adds
 pub record Added (d : Draft) : Type 0 where
   pub location : ℕ
-  pub is : d ≡ record { card = blank; made = Whole location zero_word }
+  pub is : d ≡ record { card = blank; made = made_with location zero_word None }
 
 -- all of a list are such drafts
 abbrev AllAdded : List Draft → Type 0
@@ -42,7 +41,7 @@ supply_one : (loc : Option Name) (s : State) (n : Name) → (ds : List Draft) ×
 supply_one loc s n = at (waits s.symbols loc n)
   where
     at : (b : Bool) → (ds : List Draft) × AllAdded ds × ((cond b (supplied_one s n) s).drafts ≡ s.drafts ++ ds)
-    at true = (record { card = blank; made = Whole s.here zero_word } ∷ [], (record { location = s.here; is = refl }, tt), refl)
+    at true = (record { card = blank; made = made_with s.here zero_word None } ∷ [], (record { location = s.here; is = refl }, tt), refl)
     at false = ([], tt, sym (append-nil s.drafts))
 
 added_both : (xs ys : List Draft) → AllAdded xs → AllAdded ys → AllAdded (xs ++ ys)

@@ -4,7 +4,6 @@ use Rattle.card.specs.Text.{padded}
 use Rattle.mixal.specs.Deck.{State, fresh, zero, made_on, is_end}
 use Rattle.mixal.specs.Ends.{Assembled, blank, placed}
 use Rattle.mixal.specs.declared.draft.Made.{Made}
-use Rattle.mixal.specs.declared.draft.Made.TheVariants.{Nothing}
 use Rattle.mixal.specs.declared.line.Line.{Line}
 use Rattle.names.specs.Names.{operation_of}
 use Rattle.names.specs.declared.kinds.Operation.{Operation}
@@ -12,12 +11,12 @@ use Rattle.scan.specs.Columns.{is_remark, op_of}
 use Rattle.deck_laws.specs.Reading.{Reads}
 
 -- what a card assembles that is read in a state
-abbrev pub made_named : State → List ℕ → Option Operation → Made
-made_named s c None = Nothing
+abbrev pub made_named : State → List ℕ → Option Operation → Option Made
+made_named s c None = None
 made_named s c (Some o) = made_on s c o
 
-abbrev pub made_by : State → List ℕ → Made
-made_by s c = cond (is_remark c) Nothing (made_named s c (operation_of (op_of c)))
+abbrev pub made_by : State → List ℕ → Option Made
+made_by s c = cond (is_remark c) None (made_named s c (operation_of (op_of c)))
 
 -- the lines of a deck that was assembled from the cards cs
 pub record Words (cs : List (List ℕ)) (a : Assembled) : Type 0 where

@@ -7,13 +7,8 @@ use mixal::{Deck, Refusal};
 use std::alloc::Global;
 
 // The deck of a text, or its rejection. What follows END is not looked at.
+#[tactic(auto, using(crate::proofs::Answered::lawful))]
 pub fn assemble(heap: Global, text: &[u8]) -> Result<Deck, Refusal>
-    ensures { Lawful text.now result }
-{
-    with_laws(heap, text)
-}
-
-fn with_laws(heap: Global, text: &[u8]) -> Result<Deck, Refusal>
     ensures { Lawful text.now result }
 {
     mixal::assemble(heap, text)

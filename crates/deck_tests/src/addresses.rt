@@ -2,10 +2,7 @@ use scan::{first_piece, parts};
 use std::test::Fail;
 
 fn text_is(text: Option<&[u8]>, other: &[u8]) -> bool {
-    match text {
-        Some(t) => t == other,
-        None => false,
-    }
+    text.is_some_and(|t| t == other)
 }
 
 #[test]

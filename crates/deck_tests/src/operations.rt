@@ -1,11 +1,13 @@
-use names::{Operation, name, operation, time};
+use names::{Instruction, Operation, operation};
+
+// The instruction of a C and an F.
+fn of(c: u8, f: u8) -> Instruction {
+    Instruction { c, f }
+}
 
 // Whether a name is an instruction with this C and F.
 fn is(text: [u8; 4], c: u8, f: u8) -> bool {
-    match operation(text) {
-        Some(Operation::Machine(found)) => found.c == c && found.f == f,
-        _ => false,
-    }
+    operation(text) == Some(Operation::Machine(of(c, f)))
 }
 
 #[test]
@@ -22,7 +24,7 @@ fn names_and_their_codes(rt: HostRuntime) {
     assert!(rt; is(*b"J6NP", 46, 5));
     assert!(rt; is(*b"ENNX", 55, 3));
     assert!(rt; is(*b"CMP1", 57, 5));
-    assert!(rt; matches!(operation(*b"END "), Some(Operation::End)));
+    assert!(rt; operation(*b"END ") == Some(Operation::End));
     assert!(rt; operation(*b"    ").is_none());
     assert!(rt; operation(*b" IN ").is_none());
     assert!(rt; operation(*b"add ").is_none());
@@ -30,14 +32,14 @@ fn names_and_their_codes(rt: HostRuntime) {
 
 #[test]
 fn codes_and_their_times(rt: HostRuntime) {
-    assert_eq!(rt; time(0, 0), 1);
-    assert_eq!(rt; time(4, 5), 12);
-    assert_eq!(rt; time(5, 2), 10);
-    assert_eq!(rt; time(7, 10), 21);
-    assert_eq!(rt; time(36, 16), 1);
-    assert_eq!(rt; time(63, 5), 2);
-    assert_eq!(rt; time(64, 0), 0);
-    assert!(rt; name(39, 8) == Some(*b"JNE "));
-    assert!(rt; name(48, 2) == Some(*b"ENTA"));
-    assert!(rt; name(6, 6).is_none());
+    assert_eq!(rt; of(0, 0).time(), 1);
+    assert_eq!(rt; of(4, 5).time(), 12);
+    assert_eq!(rt; of(5, 2).time(), 10);
+    assert_eq!(rt; of(7, 10).time(), 21);
+    assert_eq!(rt; of(36, 16).time(), 1);
+    assert_eq!(rt; of(63, 5).time(), 2);
+    assert_eq!(rt; of(64, 0).time(), 0);
+    assert!(rt; of(39, 8).name() == Some(*b"JNE "));
+    assert!(rt; of(48, 2).name() == Some(*b"ENTA"));
+    assert!(rt; of(6, 6).name().is_none());
 }

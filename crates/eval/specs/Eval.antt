@@ -6,7 +6,7 @@ use Rattle.scan.specs.declared.terms.Atom.TheVariants.{Number, Symbol, Here}
 use Rattle.scan.specs.declared.terms.Operator.{Operator}
 use Rattle.scan.specs.declared.terms.Operator.TheVariants.{Plus, Minus, Times, Divide, Fraction, Colon}
 use Rattle.scan.specs.declared.terms.Term.{Term}
-use Rattle.std.specs.Option.{option_map}
+use Rattle.std.specs.Option.{option_map, option_and_then}
 use Rattle.symbols.specs.Symbols.{known_as}
 use Rattle.symbols.specs.declared.meaning.Meaning.{Meaning}
 use Rattle.table.specs.declared.name.Name.{Name}
@@ -43,15 +43,10 @@ applied_to o v (Some w) = applied o v w
 abbrev pub stepped : List (Name × Meaning) → ℕ → Word → Term → Option Word
 stepped es here v t = applied_to t.op v (atom_word es here t.atom)
 
--- going on from a value, where there is one
-abbrev pub and_then : {X Y : Type 0} → (X → Option Y) → Option X → Option Y
-and_then k None = None
-and_then k (Some x) = k x
-
 -- terms worked left to right from a value
 abbrev pub worked_from : List (Name × Meaning) → ℕ → List Term → Word → Option Word
 worked_from es here [] v = Some v
-worked_from es here (t ∷ ts) v = and_then (λ w. worked_from es here ts w) (stepped es here v t)
+worked_from es here (t ∷ ts) v = option_and_then (λ w. worked_from es here ts w) (stepped es here v t)
 
 -- the terms of a text worked from a value, where it has terms
 abbrev pub worked_by : List (Name × Meaning) → ℕ → Word → Option (List Term) → Option Word

@@ -6,19 +6,55 @@ ghost use Rattle.symbols.specs.Symbols.{entries, known_as};
 ghost use Rattle.values.specs.Values.{fitted};
 ghost use Rattle.word.specs.declared.sign.Sign.TheVariants.{Plus};
 
+use crate::scope::Scope;
 use scan::{Atom, Operator, Term, first_term, is_expression, next_term};
 use symbols::Symbols;
 use table::Name;
-use values::{add, colon, divide, fraction, multiply, number, subtract};
+use values::{add, colon, divide, fitted, fraction, multiply, number, subtract};
 use word::{Sign, Word};
 
-// The value of an expression; none where it is out of range, where the text is no expression
-// or where a symbol is not defined.
-pub fn value(symbols: &Symbols, here: u16, text: &[u8]) -> Option<Word>
-    ensures { result ≡ value_of (entries symbols.now) here text.now }
-{
-    let zero = Word::wrapping(Sign::Plus, 0);
-    from_first(symbols, here, zero, text)
+impl Scope<'_> {
+    // The value of an expression; none where it is out of range, where the text is no expression
+    // or where a symbol is not defined.
+    pub fn value(self, text: &[u8]) -> Option<Word>
+        ensures { result ≡ value_of (entries self.entry.symbols.now) self.entry.here text.now }
+    {
+        let zero = Word::wrapping(Sign::Plus, 0);
+        let (term, mut rest) = first_term(text)?;
+        let mut value = self.step(zero, term)?;
+        while !rest.is_empty() {
+            let (term, next) = next_term(rest)?;
+            value = self.step(value, term)?;
+            rest = next;
+        }
+        Some(value)
+    }
+
+    // One term worked on a value.
+    fn step(self, value: Word, term: Term) -> Option<Word>
+        ensures { result ≡ stepped (entries self.entry.symbols.now) self.entry.here value term }
+    {
+        let operand = self.operand(term.atom)?;
+        apply(term.op, value, operand)
+    }
+
+    // What an atom stands for.
+    fn operand(self, atom: Atom) -> Option<Word>
+        ensures { result ≡ atom_word (entries self.entry.symbols.now) self.entry.here atom }
+    {
+        match atom {
+            Atom::Number(n) => fitted(Sign::Plus, n),
+            Atom::Symbol(codes) => self.meant(codes),
+            Atom::Here => Some(Word::wrapping(Sign::Plus, u64::from(self.here))),
+        }
+    }
+
+    // The word of a symbol as a number, if it is defined.
+    fn meant(self, codes: [u8; 10]) -> Option<Word>
+        ensures { result ≡ option_map as_number (known_as (entries self.entry.symbols.now) (record { codes = codes })) }
+    {
+        self.symbols.word(Name { codes }).map(number)
+    }
 }
 
 // Whether an expression names a symbol that is not defined.
@@ -28,46 +64,26 @@ pub fn undefined(symbols: &Symbols, text: &[u8]) -> bool
     is_expression(text) && names_unknown(symbols, text)
 }
 
-// The terms of an expression, worked from a value.
-fn from_first(symbols: &Symbols, here: u16, zero: Word, text: &[u8]) -> Option<Word>
-    ensures { result ≡ worked_by (entries symbols.now) here zero (terms_of text.now) }
-{
-    let (term, rest) = first_term(text)?;
-    let first = step(symbols, here, zero, term)?;
-    further(symbols, here, first, rest)
-}
-
-// The further terms of a text, worked from a value.
-fn further(symbols: &Symbols, here: u16, first: Word, text: &[u8]) -> Option<Word>
-    ensures { result ≡ worked_by (entries symbols.now) here first (more_of text.now) }
-{
-    let mut value = first;
-    let mut rest = text;
-    while !rest.is_empty() {
-        let (term, next) = next_term(rest)?;
-        value = step(symbols, here, value, term)?;
-        rest = next;
-    }
-    Some(value)
-}
-
+// Whether a term of an expression is a symbol that is not defined.
+#[tactic(auto, using(crate::proofs::Steps::unknown_rest))]
 fn names_unknown(symbols: &Symbols, text: &[u8]) -> bool
-    ensures { is_some (terms_of text.now) ≡ true → result ≡ undefined_in (entries symbols.now) text.now }
+    requires { is_some (terms_of text.now) ≡ true }
+    ensures { result ≡ any_unknown_in (entries symbols.now) (terms_of text.now) }
 {
-    match first_term(text) {
-        Some((term, rest)) => is_unknown(symbols, term.atom) || any_unknown(symbols, rest),
-        None => false,
-    }
+    let Some((term, rest)) = first_term(text) else {
+        return false;
+    };
+    is_unknown(symbols, term.atom) || any_unknown(symbols, rest)
 }
 
+// Whether one of a text's further terms is a symbol that is not defined.
+#[tactic(auto, using(crate::proofs::Steps::unknown_rest))]
 fn any_unknown(symbols: &Symbols, text: &[u8]) -> bool
-    ensures { is_some (more_of text.now) ≡ true → result ≡ any_unknown_in (entries symbols.now) (more_of text.now) }
+    requires { is_some (more_of text.now) ≡ true }
+    ensures { result ≡ any_unknown_in (entries symbols.now) (more_of text.now) }
 {
     let mut rest = text;
-    while !rest.is_empty() {
-        let Some((term, next)) = next_term(rest) else {
-            return false;
-        };
+    while let Some((term, next)) = next_term(rest) {
         if is_unknown(symbols, term.atom) {
             return true;
         }
@@ -76,54 +92,17 @@ fn any_unknown(symbols: &Symbols, text: &[u8]) -> bool
     false
 }
 
+// Whether an atom is a symbol that is not defined.
 fn is_unknown(symbols: &Symbols, atom: Atom) -> bool
     ensures { result ≡ is_unknown (entries symbols.now) atom }
 {
     match atom {
-        Atom::Number(_) => false,
         Atom::Symbol(codes) => symbols.word(Name { codes }).is_none(),
-        Atom::Here => false,
+        Atom::Number(_) | Atom::Here => false,
     }
 }
 
-// One term worked on a value.
-fn step(symbols: &Symbols, here: u16, value: Word, term: Term) -> Option<Word>
-    ensures { result ≡ stepped (entries symbols.now) here value term }
-{
-    let operand = operand(symbols, here, term.atom)?;
-    apply(term.op, value, operand)
-}
-
-// What an atom stands for.
-fn operand(symbols: &Symbols, here: u16, atom: Atom) -> Option<Word>
-    ensures { result ≡ atom_word (entries symbols.now) here atom }
-{
-    match atom {
-        Atom::Number(n) => literal(n),
-        Atom::Symbol(codes) => meant(symbols, codes),
-        Atom::Here => Some(Word::wrapping(Sign::Plus, u64::from(here))),
-    }
-}
-
-fn literal(n: u64) -> Option<Word>
-    ensures { result ≡ fitted Plus n }
-{
-    if n < 0x4000_0000 {
-        Some(Word::wrapping(Sign::Plus, n))
-    } else {
-        None
-    }
-}
-
-fn meant(symbols: &Symbols, codes: [u8; 10]) -> Option<Word>
-    ensures { result ≡ option_map as_number (known_as (entries symbols.now) (record { codes = codes })) }
-{
-    match symbols.word(Name { codes }) {
-        Some(word) => Some(number(word)),
-        None => None,
-    }
-}
-
+// One operator worked. A match: the six operators are all that there are, and each has its definition.
 fn apply(op: Operator, a: Word, b: Word) -> Option<Word>
     ensures { result ≡ applied op a b }
 {

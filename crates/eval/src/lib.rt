@@ -2,5 +2,7 @@
 #![tactic(auto)]
 
 mod exprs;
+mod scope;
 
-pub use exprs::{undefined, value};
+pub use exprs::undefined;
+pub use scope::Scope;

@@ -2,7 +2,7 @@ ghost use Rattle.std.specs.Prelude.{◌≡◌};
 ghost use Rattle.examples.specs.Examples.{table};
 
 use crate::table::Worked;
-use arith::{divide, multiply, sla, slc, sra, srax, src};
+use arith::{Pair, Shift, multiply};
 use word::{Sign, Word};
 
 // All worked examples in one table.
@@ -17,20 +17,23 @@ pub fn worked() -> Worked
 }
 
 // A + 1 2 3 4 5 and X - 6 7 8 9 10, then SRAX 1, SLA 2, SRC 4, SRA 2, SLC 501.
-fn shifts() -> (Word, Word)
+#[tactic(auto, using(crate::proofs::Computed::shifts_computed))]
+fn shifts() -> Pair
     ensures { result ≡ table.shifts }
 {
     let a = Word::wrapping(Sign::Plus, 0x108_3105);
     let x = Word::wrapping(Sign::Minus, 0x61c_824a);
-    let (a, x) = srax(a, x, 1);
-    let (a, x) = sla(a, x, 2);
-    let (a, x) = src(a, x, 4);
-    let (a, x) = sra(a, x, 2);
-    slc(a, x, 501)
+    Pair { a, x }
+        .shifted(Shift::Srax, 1)
+        .shifted(Shift::Sla, 2)
+        .shifted(Shift::Src, 4)
+        .shifted(Shift::Sra, 2)
+        .shifted(Shift::Slc, 501)
 }
 
 // -112 times 2.
-fn product() -> (Word, Word)
+#[tactic(auto, using(crate::proofs::Computed::product_computed))]
+fn product() -> Pair
     ensures { result ≡ table.product }
 {
     multiply(
@@ -40,10 +43,11 @@ fn product() -> (Word, Word)
 }
 
 // AX 17 by 3.
-fn quotient() -> ((Word, Word), bool)
+#[tactic(auto, using(crate::proofs::Computed::quotient_computed))]
+fn quotient() -> Option<Pair>
     ensures { result ≡ table.quotient }
 {
     let a = Word::wrapping(Sign::Plus, 0);
     let x = Word::wrapping(Sign::Plus, 17);
-    divide(a, x, Word::wrapping(Sign::Plus, 3))
+    Pair { a, x }.divide(Word::wrapping(Sign::Plus, 3))
 }

@@ -1,12 +1,12 @@
-use word::Word;
+use arith::Pair;
 
 // What the worked examples give.
-#[derive(Clone, Copy)]
+#[derive(Clone, Copy, PartialEq, Eq, Debug)]
 pub struct Worked {
     // A and X after five shifts
-    pub shifts: (Word, Word),
+    pub shifts: Pair,
     // A and X after MUL
-    pub product: (Word, Word),
-    // A and X after DIV, and whether the toggle went on
-    pub quotient: ((Word, Word), bool),
+    pub product: Pair,
+    // A and X after DIV; none where the toggle went on
+    pub quotient: Option<Pair>,
 }

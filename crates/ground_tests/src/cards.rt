@@ -1,6 +1,7 @@
 use crate::words::word;
 use card::{
-    card_text, character, code, first_card, line_text, read_card, reproduce, text_of, trim, word_of,
+    card_text, character, code, codes_of, first_card, line_text, read_card, reproduce, spelled,
+    text_of, trim, until, word_of,
 };
 use std::test::Fail;
 use word::{Sign, Word};
@@ -50,6 +51,15 @@ fn five_characters_are_a_word(rt: HostRuntime) -> Result<(), Fail> {
     assert!(rt; text_of(word(Sign::Minus, [8, 5, 13, 13, 16])?) == *b"HELLO");
     assert!(rt; text_of(word(Sign::Plus, [55, 56, 63, 0, 30])?) == *b"'   0");
     Ok(())
+}
+
+#[test]
+fn codes_and_zeros_after_them(rt: HostRuntime) {
+    assert_eq!(rt; codes_of(b"A9"), Some([1, 39, 0]));
+    assert_eq!(rt; codes_of(b"A9'"), Some([1, 39, 55]));
+    assert_eq!(rt; codes_of::<2>(b"A9'"), None);
+    assert_eq!(rt; codes_of::<3>(b"a"), None);
+    assert!(rt; spelled([1, 39, 0, 56]) == *b"A9  ");
 }
 
 #[test]
@@ -108,6 +118,14 @@ fn words_as_a_card_and_as_a_line(rt: HostRuntime) -> Result<(), Fail> {
     let line = line_text(&[w; 24]);
     assert!(rt; line[115] == b'A' && line[116] == b' ' && line[119] == b'\'');
     Ok(())
+}
+
+#[test]
+fn bytes_before_a_stop_and_blanks_at_the_end(rt: HostRuntime) {
+    assert_eq!(rt; until(b"AB,C,D", b','), 2);
+    assert_eq!(rt; until(b"AB", b','), 2);
+    assert!(rt; trim(b" A B  ") == b" A B".as_slice());
+    assert!(rt; trim(b"   ").is_empty());
 }
 
 #[test]

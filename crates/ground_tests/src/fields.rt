@@ -3,25 +3,25 @@ use std::test::Fail;
 use word::{Field, Sign, Word};
 
 fn field(code: u8) -> Result<Field, Fail> {
-    match Field::from_code(code) {
-        Some(field) => Ok(field),
-        None => Err(Fail::new("no field")),
+    match Field::try_from(code) {
+        Ok(field) => Ok(field),
+        Err(_) => Err(Fail::new("no field")),
     }
 }
 
 #[test]
 fn codes_that_name_a_field(rt: HostRuntime) -> Result<(), Fail> {
-    assert_eq!(rt; field(0)?.code(), 0);
-    assert_eq!(rt; field(5)?.code(), 5);
+    assert_eq!(rt; u8::from(field(0)?), 0);
+    assert_eq!(rt; u8::from(field(5)?), 5);
     assert_eq!(rt; field(13)?.left, 1);
     assert_eq!(rt; field(13)?.right, 5);
-    assert_eq!(rt; field(45)?.code(), 45);
-    assert!(rt; Field::from_code(6).is_none());
-    assert!(rt; Field::from_code(8).is_none());
-    assert!(rt; Field::from_code(44).is_none());
-    assert!(rt; Field::from_code(46).is_none());
-    assert!(rt; Field::from_code(54).is_none());
-    assert!(rt; Field::from_code(255).is_none());
+    assert_eq!(rt; u8::from(field(45)?), 45);
+    assert!(rt; Field::try_from(6).is_err());
+    assert!(rt; Field::try_from(8).is_err());
+    assert!(rt; Field::try_from(44).is_err());
+    assert!(rt; Field::try_from(46).is_err());
+    assert!(rt; Field::try_from(54).is_err());
+    assert!(rt; Field::try_from(255).is_err());
     Ok(())
 }
 

@@ -1,5 +1,7 @@
 use crate::words::word;
-use arith::{add, add_index, compare, enter, enter_negative, subtract, subtract_index};
+use arith::{
+    add, add_index, compare, enter, enter_negative, subtract, subtract_index, total, whole_product,
+};
 use std::cmp::Ordering;
 use std::test::Fail;
 use word::{Index, Sign, Word};
@@ -57,7 +59,7 @@ fn within(index: Option<Index>) -> Result<Index, Fail> {
 }
 
 fn index(sign: Sign, n: u64) -> Result<Index, Fail> {
-    within(Index::from_word(number(sign, n)))
+    within(Index::try_from(number(sign, n)).ok())
 }
 
 #[test]
@@ -67,14 +69,14 @@ fn an_index_sum_stops_at_4095(rt: HostRuntime) -> Result<(), Fail> {
     assert!(rt; subtract_index(index(Sign::Minus, 4095)?, number(Sign::Plus, 1)).is_none());
     assert!(rt; add_index(top, number(Sign::Plus, 1_073_741_823)).is_none());
     assert_eq!(rt;
-        within(add_index(top, number(Sign::Minus, 0)))?.to_word(),
+        Word::from(within(add_index(top, number(Sign::Minus, 0)))?),
         number(Sign::Plus, 4095)
     );
     let zero = within(add_index(index(Sign::Minus, 5)?, number(Sign::Plus, 5)))?;
-    assert_eq!(rt; zero.to_word(), number(Sign::Minus, 0));
+    assert_eq!(rt; Word::from(zero), number(Sign::Minus, 0));
     let below = within(subtract_index(top, number(Sign::Plus, 4096)))?;
-    assert_eq!(rt; below.to_word(), number(Sign::Minus, 1));
-    assert!(rt; Index::from_word(number(Sign::Minus, 4096)).is_none());
+    assert_eq!(rt; Word::from(below), number(Sign::Minus, 1));
+    assert!(rt; Index::try_from(number(Sign::Minus, 4096)).is_err());
     Ok(())
 }
 
@@ -109,4 +111,17 @@ fn enter_takes_the_sign_of_the_instruction_at_zero(rt: HostRuntime) {
     assert_eq!(rt; enter_negative(Sign::Plus, zero), zero.negated());
     assert_eq!(rt; enter_negative(Sign::Minus, zero), zero);
     assert_eq!(rt; enter_negative(Sign::Plus, five.negated()), five);
+}
+
+#[test]
+fn sums_and_products_of_magnitudes(rt: HostRuntime) {
+    assert_eq!(rt; total(Sign::Minus, 5, Sign::Plus, 5), (Sign::Minus, 0));
+    assert_eq!(rt; total(Sign::Plus, 3, Sign::Minus, 8), (Sign::Minus, 5));
+    assert_eq!(rt; total(Sign::Minus, 8, Sign::Minus, 3), (Sign::Minus, 11));
+    assert_eq!(rt;
+        total(Sign::Plus, u64::MAX, Sign::Plus, 1),
+        (Sign::Plus, u64::MAX)
+    );
+    let largest = number(Sign::Minus, 1_073_741_823);
+    assert_eq!(rt; whole_product(largest, largest), 1_152_921_502_459_363_329);
 }

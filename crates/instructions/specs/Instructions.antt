@@ -1,10 +1,10 @@
 -- The ADDRESS of an instruction: A-part, index and F, and the word that they make with C.
 use Rattle.std.specs.Prelude.{ℕ, ◌+◌, ◌*◌, Bool, false, cond, ◌&&◌, ◌||◌, List, length, is_some, Some, None, Option, ◌==◌, nat_le}
-use Rattle.eval.specs.Eval.{and_then, value_of, undefined_in}
+use Rattle.eval.specs.Eval.{value_of, undefined_in}
 use Rattle.scan.specs.Address.{parts_of}
 use Rattle.scan.specs.Symbols.{name_of}
 use Rattle.scan.specs.Terms.{terms_of}
-use Rattle.std.specs.Option.{option_map}
+use Rattle.std.specs.Option.{option_map, option_and_then}
 use Rattle.symbols.specs.Symbols.{known_as}
 use Rattle.symbols.specs.declared.meaning.Meaning.{Meaning}
 use Rattle.table.specs.declared.name.Name.{Name}
@@ -32,7 +32,7 @@ unless_known es codes = cond (is_some (known_as es (record { codes = codes }))) 
 
 -- the symbol that an A-part is, where it is one symbol that is not defined
 abbrev pub future_of : List (Name × Meaning) → List ℕ → Option (List ℕ)
-future_of es a = and_then (unless_known es) (name_of a)
+future_of es a = option_and_then (unless_known es) (name_of a)
 
 -- whether an A-part names a symbol that is not defined, and is more than that symbol
 abbrev pub a_undefined : List (Name × Meaning) → List ℕ → Bool
@@ -53,7 +53,7 @@ as_address w = cond (nat_le w.magnitude 4095) (Some w) None
 -- the value of an A-part: zero where it is missing or a future symbol
 abbrev pub a_word : List (Name × Meaning) → ℕ → List ℕ → Option Word
 a_word es here a =
-    cond (length a == 0 || is_some (future_of es a)) (Some (word_of Plus 0)) (and_then as_address (value_of es here a))
+    cond (length a == 0 || is_some (future_of es a)) (Some (word_of Plus 0)) (option_and_then as_address (value_of es here a))
 
 -- a value from 0 to a bound
 abbrev pub up_to_bound : ℕ → Word → Option ℕ
@@ -62,7 +62,7 @@ up_to_bound n w = cond (is_plus w.sign && nat_le w.magnitude n) (Some w.magnitud
 -- the value of a part, or a default where it is missing
 abbrev pub part_number : List (Name × Meaning) → ℕ → ℕ → ℕ → Option (List ℕ) → Option ℕ
 part_number es here n missing None = Some missing
-part_number es here n missing (Some text) = and_then (up_to_bound n) (value_of es here text)
+part_number es here n missing (Some text) = option_and_then (up_to_bound n) (value_of es here text)
 
 -- the word of an instruction: sign and bytes 1 and 2 are the address, then the index, F and C
 abbrev pub instruction_word : Word → ℕ → ℕ → ℕ → Word
@@ -72,7 +72,7 @@ instruction_word a i f c = word_of a.sign (a.magnitude * 262144 + i * 4096 + f *
 abbrev pub word_of_parts : List (Name × Meaning) → ℕ → ℕ → ℕ → Option (List ℕ × Option (List ℕ) × Option (List ℕ)) → Option Word
 word_of_parts es here c missing None = None
 word_of_parts es here c missing (Some p) =
-    and_then (λ a. and_then (λ i. option_map (λ f. instruction_word a i f c) (part_number es here 63 missing p.2)) (part_number es here 6 0 p.1))
+    option_and_then (λ a. option_and_then (λ i. option_map (λ f. instruction_word a i f c) (part_number es here 63 missing p.2)) (part_number es here 6 0 p.1))
     (a_word es here p.0)
 
 -- the word of an ADDRESS with C and the F that it may leave out

@@ -2,8 +2,7 @@
 #![tactic(auto)]
 
 ghost use Rattle.std.specs.Prelude.{◌≡◌, IfOk, Ok};
-ghost use Rattle.jobs.specs.Jobs.{reject_line, report_of};
-ghost use Rattle.mixal.specs.Assembled.{deck_of};
+ghost use Rattle.jobs.specs.Jobs.{printed, reject_line, report_of};
 ghost use Rattle.mixal.specs.Model.{assembled};
 
 use deck_laws::assemble;
@@ -13,31 +12,31 @@ use std::alloc::{AllocError, Global};
 
 // The listing of the deck at the front of the input and the lines of its symbols, or only its rejection.
 pub fn report(heap: Global, input: &[u8]) -> Result<Vec<u8>, AllocError>
-    ensures { IfOk result (λ v. v.items ≡ report_of (deck_of input.now)) }
+    ensures { IfOk result (λ v. v.items ≡ printed input.now) }
 {
     match assemble(heap, input) {
-        Ok(deck) => deck_text(heap, deck),
+        Ok(deck) => deck_text(heap, &deck),
         Err(Refusal::Rejected(rejection)) => reject_line(heap, rejection),
         Err(Refusal::NoMemory) => Err(AllocError),
     }
 }
 
-fn deck_text(heap: Global, deck: Deck) -> Result<Vec<u8>, AllocError>
-    ensures { IfOk result (λ v. v.items ≡ report_of (Ok (assembled deck))) }
+// The listing, and the lines of the symbols after it.
+fn deck_text(heap: Global, deck: &Deck) -> Result<Vec<u8>, AllocError>
+    ensures { IfOk result (λ v. v.items ≡ report_of (Ok (assembled deck.now))) }
 {
-    let mut out = listing_text(heap, &deck)?;
-    let symbols = symbol_lines_text(heap, &deck)?;
+    let mut out = listing_text(heap, deck)?;
+    let symbols = symbol_lines_text(heap, deck)?;
     out.extend_from_slice(&symbols)?;
     Ok(out)
 }
 
+// The number of a rejection and its card.
 fn reject_line(heap: Global, rejection: Rejection) -> Result<Vec<u8>, AllocError>
     ensures { IfOk result (λ v. v.items ≡ reject_line rejection) }
 {
     let number = rejection.cause.number();
     let card = rejection.card;
     let line = format!(in heap; "REJECT {number} {card}\n")?;
-    let mut out = Vec::new(heap);
-    out.extend_from_slice(line.as_bytes())?;
-    Ok(out)
+    Ok(line.into_bytes())
 }

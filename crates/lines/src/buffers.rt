@@ -4,7 +4,7 @@ ghost use Rattle.lines.specs.Buffer.{too_long_number, Copied};
 use crate::buffer::TooLong;
 
 impl TooLong {
-    // The number of this refusal.
+    // The number of this refusal. No `From`: `number` says which number is meant, a conversion doesn't.
     pub fn number(self) -> u8
         ensures { result ≡ too_long_number }
     {
@@ -17,6 +17,7 @@ pub fn copy_out(text: &[u8], buffer: &mut [u8]) -> Result<usize, TooLong>
     ensures { Copied text.now buffer.old buffer.new result }
 {
     let length = text.len();
+    // `get_mut(..length)` tells nothing of what the buffer holds in the end, so its length is tested.
     if buffer.len() < length {
         return Err(TooLong { length });
     }

@@ -1,24 +1,32 @@
-ghost use Rattle.std.specs.Prelude.{◌≡◌, ℕ, List, [], ◌∷◌, ◌++◌, map, length, take, OnOk};
+ghost use Rattle.std.specs.Prelude.{◌≡◌, ℕ, ◌+◌, ◌-◌, ◌%◌, ◌≤◌, List, [], ◌∷◌, ◌++◌, length, take, replicate, OnOk};
 ghost use Rattle.card.specs.Lines.{trimmed};
-ghost use Rattle.card.specs.Table.{character_of};
-ghost use Rattle.lines.specs.Lines.{four_digits, sign_text, word_digits, front, listed, symbol_line, memory_line};
+ghost use Rattle.lines.specs.Lines.{two_digits, four_digits, sign_text, word_digits, front, listed, symbol_line, memory_line};
 
-use card::{character, trim};
+use card::{spelled, trim};
 use std::alloc::AllocError;
 use word::{Sign, Word};
 
-// A location by four digits.
+// A location by four digits. Digits are made by hand in these texts: `{:04}` writes to a writer,
+// whose `Err` an array cannot have.
+#[tactic(auto, unfolding(crate::specs::Lines::four_digits))]
 pub fn location_text(location: u16) -> [u8; 4]
     ensures { result ≡ four_digits location }
 {
-    four(location)
+    [
+        last_digit(location / 1000),
+        last_digit(location / 100),
+        last_digit(location / 10),
+        last_digit(location),
+    ]
 }
 
 // A word: its sign, and its bytes by two digits each.
 pub fn word_text(word: Word) -> [u8; 16]
     ensures { result ≡ word_digits word }
 {
-    digits(word)
+    let mut text = [sign_text(word.sign); 16];
+    text[1..].copy_from_slice(word.to_bytes().map(byte_text).as_flattened());
+    text
 }
 
 // One line of a listing is added to the text; want of memory may leave a part of it after what was there.
@@ -31,31 +39,34 @@ pub fn list_line(out: &mut Vec<u8>, at: Option<(u16, Word)>, card: &[u8]) -> Res
     add_line(out, trimmed_front(&front, card), card)
 }
 
-// The line of a symbol, given by the ten codes of its name.
+// The line of a symbol, given by the ten codes of its name. Columns are named by number: the
+// line's definition puts them by number.
 pub fn symbol_text(name: [u8; 10], word: Word) -> [u8; 30]
     ensures { result ≡ symbol_line name word }
 {
-    symbol(name, word)
+    let mut line = [b' '; 30];
+    line[0] = b'S';
+    line[29] = b'\n';
+    line[2..12].copy_from_slice(&spelled(name));
+    line[13..29].copy_from_slice(&word_text(word));
+    line
 }
 
 // The line of a word in memory.
 pub fn memory_text(location: u16, word: Word) -> [u8; 22]
     ensures { result ≡ memory_line location word }
 {
-    memory(location, word)
+    numbered(location, word, b'\n')
 }
 
-fn four(n: u16) -> [u8; 4]
-    ensures { result ≡ four_digits n }
+// The last digit of a number.
+fn last_digit(n: u16) -> u8
+    ensures { result ≡ 48 + n % 10 }
 {
-    [
-        (48 + n / 1000 % 10) as u8,
-        (48 + n / 100 % 10) as u8,
-        (48 + n / 10 % 10) as u8,
-        (48 + n % 10) as u8,
-    ]
+    (48 + n % 10) as u8
 }
 
+// A sign by its character.
 fn sign_text(sign: Sign) -> u8
     ensures { result ≡ sign_text sign }
 {
@@ -65,29 +76,11 @@ fn sign_text(sign: Sign) -> u8
     }
 }
 
-fn digits(word: Word) -> [u8; 16]
-    ensures { result ≡ word_digits word }
+// A byte of a word: a blank, and two digits.
+fn byte_text(byte: u8) -> [u8; 3]
+    ensures { result ≡ 32 ∷ two_digits byte }
 {
-    let sign = sign_text(word.sign);
-    let [a, b, c, d, e] = word.to_bytes();
-    [
-        sign,
-        b' ',
-        48 + a / 10,
-        48 + a % 10,
-        b' ',
-        48 + b / 10,
-        48 + b % 10,
-        b' ',
-        48 + c / 10,
-        48 + c % 10,
-        b' ',
-        48 + d / 10,
-        48 + d % 10,
-        b' ',
-        48 + e / 10,
-        48 + e % 10,
-    ]
+    [b' ', b'0' + byte / 10, b'0' + byte % 10]
 }
 
 // The columns before a card: location and word, or blanks.
@@ -95,59 +88,23 @@ fn front_columns(at: Option<(u16, Word)>) -> [u8; 23]
     ensures { result ≡ front at }
 {
     match at {
-        Some(pair) => numbered(pair.0, pair.1),
+        Some((location, word)) => numbered(location, word, b' '),
         None => [b' '; 23],
     }
 }
 
-fn numbered(location: u16, word: Word) -> [u8; 23]
-    ensures { result ≡ four_digits location ++ (32 ∷ (word_digits word ++ (32 ∷ 32 ∷ []))) }
+// A location and a word, and `end` in each column after them. Columns are named by number, as in
+// the line's definition.
+fn numbered<const N: usize>(location: u16, word: Word, end: u8) -> [u8; N]
+    requires { 21 ≤ N }
+    ensures { result ≡ four_digits location ++ (32 ∷ (word_digits word ++ replicate (N - 21) end)) }
 {
-    let [a, b, c, d] = four(location);
-    let mut line = [b' '; 23];
-    line[0] = a;
-    line[1] = b;
-    line[2] = c;
-    line[3] = d;
-    line[5..21].copy_from_slice(&digits(word));
+    let mut line = [end; N];
+    let columns = &mut line[..];
+    columns[..4].copy_from_slice(&location_text(location));
+    columns[4] = b' ';
+    columns[5..21].copy_from_slice(&word_text(word));
     line
-}
-
-fn memory(location: u16, word: Word) -> [u8; 22]
-    ensures { result ≡ memory_line location word }
-{
-    let [a, b, c, d] = four(location);
-    let mut line = [b'\n'; 22];
-    line[0] = a;
-    line[1] = b;
-    line[2] = c;
-    line[3] = d;
-    line[4] = b' ';
-    line[5..21].copy_from_slice(&digits(word));
-    line
-}
-
-fn symbol(name: [u8; 10], word: Word) -> [u8; 30]
-    ensures { result ≡ symbol_line name word }
-{
-    let mut line = [b'\n'; 30];
-    line[0] = b'S';
-    line[1] = b' ';
-    line[2..12].copy_from_slice(&spelled(name));
-    line[12] = b' ';
-    line[13..29].copy_from_slice(&digits(word));
-    line
-}
-
-// The characters of ten codes.
-fn spelled(codes: [u8; 10]) -> [u8; 10]
-    ensures { result ≡ map character_of codes }
-{
-    let mut text = [b' '; 10];
-    for (i, c) in codes.iter().enumerate() {
-        text[i] = character(*c);
-    }
-    text
 }
 
 // The front of a line; its blanks at the end go too where the card is empty.

@@ -5,6 +5,8 @@ use crate::refusal::TextRefusal;
 use lines::TooLong;
 use std::alloc::AllocError;
 
+// A derive would be no plainer than these two: contracts read `from_gives`, which none writes.
+
 // Want of memory.
 impl From<AllocError> for TextRefusal {
     ghost from_gives = { λ _ r. r ≡ NoMemory };

@@ -8,6 +8,7 @@ use Rattle.mixal.specs.declared.cause.Refusal.{Refusal}
 use Rattle.mixal.specs.declared.cause.Refusal.TheVariants.{Rejected, NoMemory}
 use Rattle.mixal.specs.declared.cause.Rejection.{Rejection}
 use Rattle.mixal.specs.declared.deck.Deck.{Deck}
+use Rattle.mixal.specs.declared.sound_card.SoundCard.{SoundCard}
 use Rattle.mixal.specs.Assembled.{unless_rejected, is_last, read_from}
 use Rattle.mixal.specs.Causes.{cause_of, late_cause}
 use Rattle.mixal.specs.Deck.{State, after_card, is_end}
@@ -16,21 +17,21 @@ use Rattle.mixal.specs.Model.{Answers, assembled}
 use Rattle.mixal.specs.Steps.{Steps, ended_if}
 
 -- a good END card gives the deck
-pub gives : (s t : State) (c : List ℕ) (d : Deck) → t ≡ at_end s c → None ≡ late_cause false t.symbols t.here c End → assembled d ≡ ended (length s.drafts) t c → Answers (Ok d) (ended_if s c)
+pub gives : (s t : State) (c : List ℕ) (d : Deck) → t ≡ at_end s c → late_cause false t.symbols t.here c End ≡ None → assembled d ≡ ended (length s.drafts) t c → Answers (Ok d) (ended_if s c)
 gives s t c d e =
-    let P : State → Type 0 = λ v. None ≡ late_cause false v.symbols v.here c End → assembled d ≡ ended (length s.drafts) v c → Answers (Ok d) (ended_if s c) in
+    let P : State → Type 0 = λ v. late_cause false v.symbols v.here c End ≡ None → assembled d ≡ ended (length s.drafts) v c → Answers (Ok d) (ended_if s c) in
     let Q : Option Cause → Type 0 = λ o. Answers (Ok d) (unless_rejected (suc (length s.drafts)) (Ok (ended (length s.drafts) (at_end s c) c)) o) in
-    subst P (sym e) (λ h g. subst Q h g)
+    subst P (sym e) (λ h g. subst Q (sym h) g)
 
 -- the deck ends there
-pub reads : (last : Bool) (s t : State) (c : List ℕ) (cs : List (List ℕ)) (columns : List ℕ) (r : Result Deck Refusal) → last ≡ is_last cs → Steps last s c t (Ok (Some columns)) → Answers r (ended_if t c) → Answers r (read_from s (c ∷ cs))
-reads last s t c cs columns r l q a =
+pub reads : (last : Bool) (s t : State) (c : List ℕ) (cs : List (List ℕ)) (k : SoundCard) (r : Result Deck Refusal) → last ≡ is_last cs → Steps last s c t (Ok (Some k)) → Answers r (ended_if t k.text.now) → Answers r (read_from s (c ∷ cs))
+reads last s t c cs card r l q a =
     let P : State → Type 0 = λ v. Answers r (ended_if v c) in
     let R : Result Assembled Rejection → Type 0 = λ v. Answers r v in
     let k = suc (length s.drafts) in
     let e = ap (λ (o : Option Cause). unless_rejected k (cond (is_end c) (Ok (ended (length s.drafts) (at_end s c) c)) (read_from (after_card s c) cs)) o) (q.1.cause (is_last cs))
     ∙ ap (λ (b : Bool). unless_rejected k (cond b (Ok (ended (length s.drafts) (at_end s c) c)) (read_from (after_card s c) cs)) (late_cause false (at_end s c).symbols (at_end s c).here c End)) q.0 in
-    subst R (sym e) (subst P q.2 a)
+    subst R (sym e) (subst P q.2 (subst (λ (d : List ℕ). Answers r (ended_if t d)) q.3 a))
 
 -- a card that was taken: the deck goes on
 pub taken : (last : Bool) (s t : State) (c : List ℕ) (cs : List (List ℕ)) → last ≡ is_last cs → Steps last s c t (Ok None) → read_from s (c ∷ cs) ≡ read_from t cs

@@ -1,5 +1,5 @@
 -- The causes of a card as they are looked for one after the other.
-use Rattle.std.proofs.Common.{◌≡◌, ℕ, suc, Bool, true, false, cond, not, ◌||◌, leb, List, [], ◌∷◌, length, Some, None, Err, sym, refl, ap, ◌∙◌, subst, arith}
+use Rattle.std.proofs.Common.{◌≡◌, ℕ, suc, Bool, true, false, cond, not, ◌||◌, leb, List, [], ◌∷◌, length, Some, None, Option, Err, sym, refl, ap, ◌∙◌, subst, arith}
 use Rattle.card.specs.Text.{sound}
 use Rattle.names.specs.declared.kinds.Operation.{Operation}
 use Rattle.names.specs.declared.kinds.Operation.TheVariants.{Machine, Equ, Orig, Con, Alf, End}
@@ -37,29 +37,33 @@ ready s c Con h = refl
 ready s c Alf h = refl
 ready s c End h = absurd (both_ways true h refl)
 
-late : (last : Bool) (s : State) (c : List ℕ) (o : Operation) (columns : List ℕ) → Read s c o columns → is_end_of (Some o) ≡ false → cause_of last s c ≡ late_cause last s.symbols s.here c o
-late last s c o columns r h =
+late : (last : Bool) (s : State) (c : List ℕ) (o : Operation) → Read s c o → is_end_of (Some o) ≡ false → cause_of last s c ≡ late_cause last s.symbols s.here c o
+late last s c o r h =
     r.cause last ∙ ap (λ (t : State). late_cause (misses_end last (is_end_of (Some o))) t.symbols t.here c o) (ready s c o h)
     ∙ ap (λ (b : Bool). late_cause (misses_end last b) s.symbols s.here c o) h
 
+-- the same symbols and the same location have the same causes
+pub late_alike : (missing : Bool) (c : List ℕ) (o : Operation) {es fs : List (Name × Meaning)} {h k : ℕ} {r : Option Cause} → es ≡ fs → h ≡ k → late_cause missing es h c o ≡ r → late_cause missing fs k c o ≡ r
+late_alike missing c o e f g = sym (λ i. late_cause missing (e i) (f i) c o) ∙ g
+
 -- a card that is rejected for a cause from 6 on
-pub late_bad : (last : Bool) (s : State) (c : List ℕ) (o : Operation) (columns : List ℕ) → Read s c o columns → is_end_of (Some o) ≡ false → (x : Cause) → Some x ≡ late_cause last s.symbols s.here c o → (r : Refusal) → r ≡ Rejected (record { cause = x; card = suc (length s.drafts) }) → (t : State) → Takes last s c t (Err r)
-late_bad last s c o columns d h x e r q t =
+pub late_bad : (last : Bool) (s : State) (c : List ℕ) (o : Operation) → Read s c o → is_end_of (Some o) ≡ false → (x : Cause) → late_cause last s.symbols s.here c o ≡ Some x → (r : Refusal) → r ≡ Rejected (record { cause = x; card = suc (length s.drafts) }) → (t : State) → Takes last s c t (Err r)
+late_bad last s c o d h x e r q t =
     let P : Refusal → Type 0 = λ v. Takes last s c t (Err v) in
-    subst P (sym q) (late last s c o columns d h ∙ sym e, refl)
+    subst P (sym q) (late last s c o d h ∙ e, refl)
 
 -- a card of which no cause holds
-pub late_good : (last : Bool) (s : State) (c : List ℕ) (o : Operation) (columns : List ℕ) → Read s c o columns → is_end_of (Some o) ≡ false → None ≡ late_cause last s.symbols s.here c o → (t : State) → t ≡ after_operation s c o → (cause_of last s c ≡ None) × (t ≡ after_card s c)
-late_good last s c o columns d h e t q = (
-  late last s c o columns d h ∙ sym e,
+pub late_good : (last : Bool) (s : State) (c : List ℕ) (o : Operation) → Read s c o → is_end_of (Some o) ≡ false → late_cause last s.symbols s.here c o ≡ None → (t : State) → t ≡ after_operation s c o → (cause_of last s c ≡ None) × (t ≡ after_card s c)
+late_good last s c o d h e t q = (
+  late last s c o d h ∙ e,
   q ∙ sym (ap (λ (v : Bool). cond v (after_remark s c) (after_named s c (operation_of (op_of c)))) d.remark ∙ ap (after_named s c) d.operation),
 )
 
 -- its value and location are in range
-pub in_range : (missing : Bool) (es : List (Name × Meaning)) (here : ℕ) (c : List ℕ) (o : Operation) → None ≡ late_cause missing es here c o → out_of_range es here c o ≡ false
+pub in_range : (missing : Bool) (es : List (Name × Meaning)) (here : ℕ) (c : List ℕ) (o : Operation) → late_cause missing es here c o ≡ None → out_of_range es here c o ≡ false
 in_range missing es here c o e = at (undefined_for es (address_of c) o) (out_of_range es here c o) e
   where
-    at : (u v : Bool) → None ≡ cond u (Some Undefined) (cond v (Some Range) (cond missing (Some NoEnd) (cond (too_many es (loc_name c) (future_for es (address_of c) o)) (Some TooManySymbols) None))) → v ≡ false
+    at : (u v : Bool) → cond u (Some Undefined) (cond v (Some Range) (cond missing (Some NoEnd) (cond (too_many es (loc_name c) (future_for es (address_of c) o)) (Some TooManySymbols) None))) ≡ None → v ≡ false
     at true v h = let z : ◌≡◌ {A = ℕ} 0 1 = cc in absurd (omega arith)
     at false true h = let z : ◌≡◌ {A = ℕ} 0 1 = cc in absurd (omega arith)
     at false false h = refl

@@ -1,22 +1,14 @@
--- The words of a deck by location: in order, and each that of the last line for its location.
+-- The words of a deck by location: each is that of the last line for its location.
 use Rattle.std.proofs.Common.{◌≡◌, ℕ, Bool, true, false, cond, eqb, List, [], ◌∷◌, Some, None, Option, sym, refl, ap, ◌∙◌}
 use Rattle.std.proofs.lemmas.Bool.{eqb-true}
-use Rattle.table.proofs.Ordered.{put_sorted, lookup_put, lookup_other}
+use Rattle.table.proofs.Ordered.{lookup_put, lookup_other}
 use Rattle.table.proofs.Orders.{location_order}
 use Rattle.table.specs.Keys.{location_before, location_same}
-use Rattle.table.specs.Pairs.{lookup, put, sorted}
+use Rattle.table.specs.Pairs.{lookup, put}
 use Rattle.table.specs.declared.location.Location.{Location}
 use Rattle.word.specs.declared.word.Word.{Word}
 use Rattle.mixal.specs.Image.{with_placed, image_from, image_of, word_at, or_else, last_at}
 use Rattle.mixal.specs.declared.line.Line.{Line}
-
-placed_sorted : (ps : List (Location × Word)) (o : Option (ℕ × Word)) → sorted location_before ps ≡ true → sorted location_before (with_placed ps o) ≡ true
-placed_sorted ps None h = h
-placed_sorted ps (Some p) h = put_sorted location_order ps (record { 0 = p.0 }) p.1 h
-
-pub image_sorted : (ps : List (Location × Word)) (xs : List Line) → sorted location_before ps ≡ true → sorted location_before (image_from ps xs) ≡ true
-image_sorted ps [] h = h
-image_sorted ps (x ∷ xs) h = image_sorted (with_placed ps x.at) xs (placed_sorted ps x.at h)
 
 -- what is found at a location after one word was put
 placed_at : (l : ℕ) (ps : List (Location × Word)) (o : Option (ℕ × Word)) → lookup location_same (with_placed ps o) (record { 0 = l }) ≡ or_else (word_at l o) (lookup location_same ps (record { 0 = l }))
@@ -44,6 +36,10 @@ looked_up_from l ps (x ∷ xs) =
     ∙ ap (or_else (last_at l xs)) (placed_at l ps x.at)
     ∙ or_else_on (last_at l xs) (word_at l x.at) (lookup location_same ps (record { 0 = l }))
 
--- the image holds at each location the word of the last line for it
-pub image_last : (l : ℕ) (xs : List Line) → lookup location_same (image_of xs) (record { 0 = l }) ≡ last_at l xs
-image_last l xs = looked_up_from l [] xs ∙ or_else_none (last_at l xs)
+-- what a look-up in the image answers is the word of the last line for the location
+pub image_last : (l : ℕ) (ps : List (Location × Word)) (xs : List Line) (r : Option Word) → r ≡ lookup location_same ps (record { 0 = l }) → ps ≡ image_of xs → r ≡ last_at l xs
+image_last l ps xs r h e =
+    h
+    ∙ ap (λ (qs : List (Location × Word)). lookup location_same qs (record { 0 = l })) e
+    ∙ looked_up_from l [] xs
+    ∙ or_else_none (last_at l xs)

@@ -21,7 +21,6 @@ use Rattle.word.specs.Word.{word_of}
 use Rattle.wvalues.specs.Pieces.{w_value_of}
 use Rattle.mixal.specs.declared.draft.Draft.{Draft}
 use Rattle.mixal.specs.declared.draft.Made.{Made}
-use Rattle.mixal.specs.declared.draft.Made.TheVariants.{Nothing, Whole, Future}
 
 -- the state of the assembler: the location, the symbols, the names awaited in the order of their first
 -- appearance, and a draft for each card so far
@@ -65,20 +64,19 @@ future_for es text End = None
 abbrev pub w_value_on : State → List ℕ → Word
 w_value_on s c = unwrap_or (w_value_of s.symbols s.here (address_of c)) zero
 
--- an instruction's word, which may wait for a symbol
-abbrev pub made_with : ℕ → Word → Option Name → Made
-made_with here w None = Whole here w
-made_with here w (Some n) = Future here n w
+-- a word at a location, which may wait for a symbol
+abbrev pub made_with : ℕ → Word → Option Name → Option Made
+made_with here w o = Some (record { location = here; word = w; awaits = o })
 
 -- what a card assembles
-abbrev pub made_on : State → List ℕ → Operation → Made
+abbrev pub made_on : State → List ℕ → Operation → Option Made
 made_on s c (Machine i) =
     made_with s.here (unwrap_or (assembled_word s.symbols s.here i.c i.f (address_of c)) zero) (future_name s.symbols (address_of c))
-made_on s c Equ = Nothing
-made_on s c Orig = Nothing
-made_on s c Con = Whole s.here (w_value_on s c)
-made_on s c Alf = Whole s.here (unwrap_or (text_word (alf_of c)) zero)
-made_on s c End = Nothing
+made_on s c Equ = None
+made_on s c Orig = None
+made_on s c Con = made_with s.here (w_value_on s c) None
+made_on s c Alf = made_with s.here (unwrap_or (text_word (alf_of c)) zero) None
+made_on s c End = None
 
 -- the location after a card
 abbrev pub here_after : State → List ℕ → Operation → ℕ
@@ -114,7 +112,7 @@ awaited_after es ns None = ns
 awaited_after es ns (Some n) = cond (is_some (meaning_of es n)) ns (ns ++ (n ∷ []))
 
 -- one draft more
-abbrev pub drafted : State → List ℕ → Made → List Draft
+abbrev pub drafted : State → List ℕ → Option Made → List Draft
 drafted s c m = s.drafts ++ (record { card = padded c; made = m } ∷ [])
 
 -- a good card whose operation is known
@@ -127,19 +125,9 @@ after_operation s c o =
       drafts = drafted s c (made_on s c o);
     }
 
--- a word assembled at the location, which LOC then is
-abbrev pub after_word : State → List ℕ → Option Name → Word → State
-after_word s columns loc w =
-    record {
-      here = suc s.here;
-      symbols = defined s.symbols loc (word_of Plus s.here);
-      awaited = s.awaited;
-      drafts = s.drafts ++ (record { card = columns; made = Whole s.here w } ∷ []);
-    }
-
 -- a remark card
 abbrev pub after_remark : State → List ℕ → State
-after_remark s c = record { here = s.here; symbols = s.symbols; awaited = s.awaited; drafts = drafted s c Nothing }
+after_remark s c = record { here = s.here; symbols = s.symbols; awaited = s.awaited; drafts = drafted s c None }
 
 abbrev pub after_named : State → List ℕ → Option Operation → State
 after_named s c None = s

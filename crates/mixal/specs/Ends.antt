@@ -14,9 +14,8 @@ use Rattle.word.specs.Field.{stored_at}
 use Rattle.word.specs.Word.{word_of}
 use Rattle.mixal.specs.declared.draft.Draft.{Draft}
 use Rattle.mixal.specs.declared.draft.Made.{Made}
-use Rattle.mixal.specs.declared.draft.Made.TheVariants.{Nothing, Whole, Future}
 use Rattle.mixal.specs.declared.line.Line.{Line}
-use Rattle.mixal.specs.Deck.{State, zero, loc_name, w_value_on, defined}
+use Rattle.mixal.specs.Deck.{State, zero, loc_name, w_value_on, defined, made_with}
 
 -- whether a name has appeared and waits to be defined
 abbrev pub is_awaited : Option Meaning → Bool
@@ -43,7 +42,7 @@ supplied_one s n =
       here = suc s.here;
       symbols = put name_before name_same s.symbols n (Defined (word_of Plus s.here));
       awaited = s.awaited;
-      drafts = s.drafts ++ (record { card = blank; made = Whole s.here zero } ∷ []);
+      drafts = s.drafts ++ (record { card = blank; made = made_with s.here zero None } ∷ []);
     }
 
 -- a name supplied if it waits
@@ -64,11 +63,15 @@ abbrev pub addressed : Option Word → Word → Word
 addressed None w = w
 addressed (Some v) w = stored_at 0 2 (as_number v) w
 
+-- a word with the value of the symbol that it waits for, if it waits for one
+abbrev pub settled : List (Name × Meaning) → Option Name → Word → Word
+settled es None w = w
+settled es (Some n) w = addressed (known_as es n) w
+
 -- what a draft comes to, with its location
-abbrev pub placed : List (Name × Meaning) → Made → Option (ℕ × Word)
-placed es Nothing = None
-placed es (Whole l w) = Some (l, w)
-placed es (Future l n w) = Some (l, addressed (known_as es n) w)
+abbrev pub placed : List (Name × Meaning) → Option Made → Option (ℕ × Word)
+placed es None = None
+placed es (Some m) = Some (m.location, settled es m.awaits m.word)
 
 abbrev pub resolved : List (Name × Meaning) → Draft → Line
 resolved es d = record { at = placed es d.made; card = d.card }

@@ -1,17 +1,23 @@
 -- What the values of the code stand for.
-use Rattle.std.specs.Prelude.{◌≡◌, Ok, Err, vec_items, Result}
+use Rattle.std.specs.Prelude.{◌≡◌, List, Ok, Err, vec_items, Result}
 use Rattle.mixal.specs.declared.assembly.Assembly.{Assembly}
 use Rattle.mixal.specs.declared.cause.Refusal.{Refusal}
 use Rattle.mixal.specs.declared.cause.Refusal.TheVariants.{Rejected, NoMemory}
 use Rattle.mixal.specs.declared.cause.Rejection.{Rejection}
 use Rattle.mixal.specs.declared.deck.Deck.{Deck}
+use Rattle.mixal.specs.declared.progress.Progress.{Progress}
 use Rattle.mixal.specs.Deck.{State, state_of}
 use Rattle.mixal.specs.Ends.{Assembled}
 use Rattle.symbols.specs.Symbols.{entries}
+use Rattle.table.specs.declared.name.Name.{Name}
+
+-- the state of a deck as far as it was read, ns being the names awaited
+abbrev pub progress_of : Progress → List Name → State
+progress_of p ns = state_of p.here (entries p.symbols) ns (vec_items p.drafts)
 
 -- the state of an assembly
 abbrev pub model_of : Assembly → State
-model_of a = state_of a.here (entries a.symbols) (vec_items a.awaited) (vec_items a.drafts)
+model_of a = progress_of a.progress (vec_items a.awaited)
 
 -- what a deck holds
 abbrev pub assembled : Deck → Assembled

@@ -1,18 +1,15 @@
 ghost use Rattle.std.specs.Prelude.{◌≤◌, vec_len};
 
-use crate::draft::Draft;
-use symbols::Symbols;
+use crate::progress::Progress;
 use table::Name;
 
-// A deck as far as it was read, its END not among it: the location, the symbols, the names awaited
-// in the order of their first appearance, and a draft for each card.
+// A deck in assembly, its END not yet read: how far it is, and the names awaited in the order of their
+// first appearance.
 #[derive(Drop)]
 pub(crate) struct Assembly {
-    pub(crate) here: u16,
-    pub(crate) symbols: Symbols,
+    pub(crate) progress: Progress,
     pub(crate) awaited: Vec<Name>,
-    pub(crate) drafts: Vec<Draft>,
-    ghost low: { here ≤ 4000 },
-    ghost few: { vec_len drafts ≤ 600 },
-    ghost named: { vec_len awaited ≤ vec_len drafts },
+    ghost low: { progress.here ≤ 4000 },
+    ghost few: { vec_len progress.drafts ≤ 600 },
+    ghost named: { vec_len awaited ≤ vec_len progress.drafts },
 }

@@ -1,16 +1,16 @@
-ghost use Rattle.std.specs.Prelude.{◌≡◌, ◌≤◌, false, ◌||◌, length, is_some, if◌then◌else◌, ◌==◌};
+ghost use Rattle.std.specs.Prelude.{◌≡◌, ◌≤◌, false, Some, None, IfErr, OnOk};
 ghost use Rattle.mixal.specs.Causes.{bad_columns, is_known, unreadable, undefined_for, is_location, suits, loc_awaited, out_of_range, is_new, same_name, too_many, late_cause};
-ghost use Rattle.mixal.specs.Deck.{loc_name, future_name, future_for, a_part};
+ghost use Rattle.mixal.specs.Deck.{future_name, future_for, a_part};
 ghost use Rattle.mixal.specs.Ends.{is_awaited};
-ghost use Rattle.scan.specs.Symbols.{is_symbol};
-ghost use Rattle.wvalues.specs.Pieces.{is_plus};
 ghost use Rattle.scan.specs.Columns.{address_of};
-ghost use Rattle.symbols.specs.Symbols.{entries, meaning_of};
+ghost use Rattle.symbols.specs.Symbols.{entries};
 
 use crate::cause::Cause;
+use crate::sound_card::OperationCard;
+use eval::Scope;
 use instructions::{address_undefined, future, instruction, is_address};
 use names::Operation;
-use scan::{address_text, gap_filled, is_symbol, loc_text, name_codes, parts};
+use scan::{gap_filled, is_symbol, loc_text, parts};
 use symbols::{Meaning, Symbols};
 use table::Name;
 use word::{Sign, Word};
@@ -20,27 +20,15 @@ use wvalues::{is_w_value, w_undefined, w_value};
 pub(crate) fn bad_columns(card: &[u8]) -> bool
     ensures { result ≡ bad_columns card.now }
 {
-    !is_loc(loc_text(card)) || gap_filled(card)
-}
-
-// The symbol in LOC, if there is one.
-pub(crate) fn loc_name(card: &[u8]) -> Option<Name>
-    ensures { result ≡ loc_name card.now }
-{
-    match name_codes(loc_text(card)) {
-        Some(codes) => Some(Name { codes }),
-        None => None,
-    }
+    let loc = loc_text(card);
+    !(loc.is_empty() || is_symbol(loc)) || gap_filled(card)
 }
 
 // 3: the symbol in LOC is defined already.
 pub(crate) fn is_known(symbols: &Symbols, loc: Option<Name>) -> bool
     ensures { result ≡ is_known (entries symbols.now) loc }
 {
-    match loc {
-        Some(name) => symbols.word(name).is_some(),
-        None => false,
-    }
+    loc.is_some_and(|name| symbols.word(name).is_some())
 }
 
 // 5: the ADDRESS is not what the operation takes.
@@ -50,53 +38,43 @@ pub(crate) fn is_unreadable(text: &[u8], operation: Operation) -> bool
     match operation {
         Operation::Machine(_) => !is_address(text),
         Operation::Alf => false,
-        Operation::Equ => !is_w_value(text),
-        Operation::Orig => !is_w_value(text),
-        Operation::Con => !is_w_value(text),
-        Operation::End => !is_w_value(text),
+        Operation::Equ | Operation::Orig | Operation::Con | Operation::End => !is_w_value(text),
     }
 }
 
 // 6: it names a symbol that is not defined.
-pub(crate) fn is_undefined(symbols: &Symbols, text: &[u8], operation: Operation) -> bool
+fn is_undefined(symbols: &Symbols, text: &[u8], operation: Operation) -> bool
     ensures { unreadable text.now operation ≡ false → result ≡ undefined_for (entries symbols.now) text.now operation }
 {
     match operation {
         Operation::Machine(_) => address_undefined(symbols, text),
         Operation::Alf => false,
-        Operation::Equ => w_undefined(symbols, text),
-        Operation::Orig => w_undefined(symbols, text),
-        Operation::Con => w_undefined(symbols, text),
-        Operation::End => w_undefined(symbols, text),
+        Operation::Equ | Operation::Orig | Operation::Con | Operation::End => {
+            w_undefined(symbols, text)
+        }
     }
 }
 
 // 7: a value or the location is out of range.
-pub(crate) fn is_out_of_range(
-    symbols: &Symbols,
-    here: u16,
-    card: &[u8],
-    operation: Operation,
-) -> bool
-    ensures { result ≡ out_of_range (entries symbols.now) here card.now operation }
+fn is_out_of_range(scope: Scope<'_>, card: &OperationCard<'_>) -> bool
+    ensures { result ≡ out_of_range (entries scope.entry.symbols.now) scope.entry.here card.now.sound.text.now card.now.operation }
 {
-    let text = address_text(card);
-    match operation {
-        Operation::Machine(i) => here >= 4000
-            || instruction(symbols, here, i.c, i.f, text).is_none(),
+    let text = card.sound.address();
+    match card.operation {
+        Operation::Machine(i) => scope.here >= 4000 || instruction(scope, i, text).is_none(),
         Operation::Equ => !is_suited(
-            loc_awaited(symbols, loc_name(card)),
-            w_value(symbols, here, text),
+            loc_awaited(scope.symbols, card.sound.loc()),
+            w_value(scope, text),
         ),
-        Operation::Orig => !is_location(w_value(symbols, here, text)),
-        Operation::Con => here >= 4000 || w_value(symbols, here, text).is_none(),
-        Operation::Alf => here >= 4000,
-        Operation::End => here > 4000 || w_value(symbols, here, text).is_none(),
+        Operation::Orig => !is_location(w_value(scope, text)),
+        Operation::Con => scope.here >= 4000 || w_value(scope, text).is_none(),
+        Operation::Alf => scope.here >= 4000,
+        Operation::End => scope.here > 4000 || w_value(scope, text).is_none(),
     }
 }
 
 // 9: one symbol more than 500.
-pub(crate) fn is_too_many(symbols: &Symbols, loc: Option<Name>, future: Option<Name>) -> bool
+fn is_too_many(symbols: &Symbols, loc: Option<Name>, future: Option<Name>) -> bool
     ensures { result ≡ too_many (entries symbols.now) loc future }
 {
     let named = if is_same(loc, future) {
@@ -104,7 +82,38 @@ pub(crate) fn is_too_many(symbols: &Symbols, loc: Option<Name>, future: Option<N
     } else {
         new_names(symbols, future)
     };
-    symbols.len() + new_names(symbols, loc) + named > 500
+    symbols.len() > 500 - new_names(symbols, loc) - named
+}
+
+// The first of the causes from 6 on that holds of a card whose ADDRESS is readable; `missing` says
+// that it is the last and not END.
+pub(crate) fn check_late(
+    scope: Scope<'_>,
+    card: &OperationCard<'_>,
+    missing: bool,
+) -> Result<(), Cause>
+    requires { unreadable (address_of card.now.sound.text.now) card.now.operation ≡ false }
+    ensures good { OnOk result (late_cause missing (entries scope.entry.symbols.now) scope.entry.here card.now.sound.text.now card.now.operation ≡ None) }
+    ensures bad { IfErr result (λ x. late_cause missing (entries scope.entry.symbols.now) scope.entry.here card.now.sound.text.now card.now.operation ≡ Some x) }
+{
+    let text = card.sound.address();
+    if is_undefined(scope.symbols, text, card.operation) {
+        return Err(Cause::Undefined);
+    }
+    if is_out_of_range(scope, card) {
+        return Err(Cause::Range);
+    }
+    if missing {
+        return Err(Cause::NoEnd);
+    }
+    if is_too_many(
+        scope.symbols,
+        card.sound.loc(),
+        future_for(scope.symbols, text, card.operation),
+    ) {
+        return Err(Cause::TooManySymbols);
+    }
+    Ok(())
 }
 
 // The future symbol that a card names, if its operation takes one.
@@ -125,122 +134,54 @@ pub(crate) fn future_name(symbols: &Symbols, text: &[u8]) -> Option<Name>
     Some(Name { codes })
 }
 
-// The smallest of the causes from 6 on that holds of a card whose ADDRESS is readable; `missing` says
-// that it is the last and not END.
-pub(crate) fn late_cause(
-    symbols: &Symbols,
-    here: u16,
-    card: &[u8],
-    operation: Operation,
-    missing: bool,
-) -> Option<Cause>
-    requires { unreadable (address_of card.now) operation ≡ false }
-    ensures { result ≡ late_cause missing (entries symbols.now) here card.now operation }
-{
-    let text = address_text(card);
-    if is_undefined(symbols, text, operation) {
-        return Some(Cause::Undefined);
-    }
-    if is_out_of_range(symbols, here, card, operation) {
-        return Some(Cause::Range);
-    }
-    if missing {
-        return Some(Cause::NoEnd);
-    }
-    if is_too_many(
-        symbols,
-        loc_name(card),
-        future_for(symbols, text, operation),
-    ) {
-        return Some(Cause::TooManySymbols);
-    }
-    None
-}
-
+// The A-part of an ADDRESS.
 fn a_part(text: &[u8]) -> &[u8]
     ensures { result.now ≡ a_part text.now }
 {
-    match parts(text) {
-        Some(parts) => parts.a,
-        None => &[],
-    }
+    parts(text).map_or(&[], |parts| parts.a)
 }
 
+// Whether a name is there that has not appeared: one new symbol, or none.
 fn new_names(symbols: &Symbols, name: Option<Name>) -> usize
     ensures value { result ≡ is_new (entries symbols.now) name }
     ensures bound { result ≤ 1 }
 {
-    match name {
-        Some(name) => new_name(symbols, name),
-        None => 0,
-    }
+    usize::from(name.is_some_and(|name| symbols.meaning(name).is_none()))
 }
 
-fn new_name(symbols: &Symbols, name: Name) -> usize
-    ensures value { result ≡ (if is_some (meaning_of (entries symbols.now) name) then 0 else 1) }
-    ensures bound { result ≤ 1 }
-{
-    if symbols.meaning(name).is_some() {
-        0
-    } else {
-        1
-    }
-}
-
+// Whether two names are there, and the same.
 fn is_same(a: Option<Name>, b: Option<Name>) -> bool
     ensures { result ≡ same_name a b }
 {
-    match (a, b) {
-        (Some(m), Some(n)) => m == n,
-        _ => false,
-    }
+    a.zip(b).is_some_and(|(m, n)| m == n)
 }
 
-// Whether LOC is blank or a symbol.
-fn is_loc(text: &[u8]) -> bool
-    ensures { result ≡ (length text.now == 0 || is_symbol text.now) }
-{
-    text.is_empty() || is_symbol(text)
-}
-
-fn is_plus(sign: Sign) -> bool
-    ensures { result ≡ is_plus sign }
-{
-    matches!(sign, Sign::Plus)
-}
-
+// Whether a name has appeared and waits to be defined.
 pub(crate) fn is_awaited(meaning: Option<Meaning>) -> bool
     ensures { result ≡ is_awaited meaning }
 {
-    match meaning {
-        Some(meaning) => meaning.word().is_none(),
-        None => false,
-    }
+    meaning.is_some_and(|meaning| meaning.word().is_none())
 }
 
+// Whether the symbol in LOC is awaited.
 fn loc_awaited(symbols: &Symbols, loc: Option<Name>) -> bool
     ensures { result ≡ loc_awaited (entries symbols.now) loc }
 {
-    match loc {
-        Some(name) => is_awaited(symbols.meaning(name)),
-        None => false,
-    }
+    loc.is_some_and(|name| is_awaited(symbols.meaning(name)))
 }
 
+// Whether a value is a location from 0 to 4000.
 fn is_location(value: Option<Word>) -> bool
     ensures { result ≡ is_location value }
 {
-    match value {
-        Some(word) => (is_plus(word.sign) || word.magnitude == 0) && word.magnitude <= 4000,
-        None => false,
-    }
+    value.is_some_and(|word| {
+        (word.sign == Sign::Plus || word.magnitude == 0) && word.magnitude <= 4000
+    })
 }
 
+// Whether a value is there that a symbol can have: one that is awaited stands in an A-part.
 fn is_suited(awaited: bool, value: Option<Word>) -> bool
     ensures { result ≡ suits awaited value }
 {
-    match value {
-        Some(word) => !awaited || word.magnitude <= 4095,
-        None => false,
-    }
+    value.is_some_and(|word| !awaited || word.magnitude <= 4095)
 }

@@ -1,6 +1,5 @@
 ghost use Rattle.std.specs.Prelude.{◌≡◌};
 ghost use Rattle.mixal.specs.Image.{image_of};
-ghost use Rattle.table.specs.Items.{items};
 
 use crate::line::Line;
 use symbols::Symbols;
@@ -16,5 +15,5 @@ pub struct Deck {
     pub(crate) image: Table<Location, Word>,
     pub(crate) start: u16,
     pub(crate) cards: usize,
-    ghost words: { items image ≡ image_of lines.items },
+    ghost words: { image ≡ image_of lines.items },
 }

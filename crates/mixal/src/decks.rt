@@ -44,26 +44,14 @@ impl Deck {
         ensures all { result.now ≡ image_of (assembled self.now).lines }
         ensures order { sorted location_before result.now ≡ true }
     {
-        in_order(self)
+        self.image.pairs()
     }
 
     // The word at a location: that of the last line for it, if there is one.
+    #[tactic(auto, using(crate::proofs::Placed::image_last))]
     pub fn word(&self, location: u16) -> Option<Word>
         ensures { result ≡ last_at location (assembled self.now).lines }
     {
-        found(self, location)
+        self.image.get(&Location(location)).copied()
     }
-}
-
-fn in_order(deck: &Deck) -> &[(Location, Word)]
-    ensures all { result.now ≡ image_of (assembled deck.now).lines }
-    ensures order { sorted location_before result.now ≡ true }
-{
-    deck.image.pairs()
-}
-
-fn found(deck: &Deck, location: u16) -> Option<Word>
-    ensures { result ≡ last_at location (assembled deck.now).lines }
-{
-    deck.image.get(&Location(location)).copied()
 }

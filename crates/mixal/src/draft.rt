@@ -1,20 +1,19 @@
 use table::Name;
 use word::Word;
 
-// What a card assembles, as far as it is known before END.
-#[derive(Clone, Copy)]
-pub enum Made {
-    // nothing: a remark, EQU, ORIG or END
-    Nothing,
-    // a word at a location
-    Whole(u16, Word),
-    // an instruction at a location, whose address is the value of a symbol that was not yet defined
-    Future(u16, Name, Word),
+// What a card assembles: a word at a location, and the symbol not yet defined that its address waits
+// for, if it waits for one.
+#[derive(Clone, Copy, PartialEq, Eq, Debug)]
+pub struct Made {
+    pub location: u16,
+    pub word: Word,
+    pub awaits: Option<Name>,
 }
 
-// A line of the listing to be: the card's 80 columns, and what it assembles.
-#[derive(Clone, Copy)]
+// A line of the listing to be: the card's 80 columns, and what it assembles; nothing is assembled by a
+// remark, EQU, ORIG and END.
+#[derive(Clone, Copy, PartialEq, Eq, Debug)]
 pub struct Draft {
     pub card: [u8; 80],
-    pub made: Made,
+    pub made: Option<Made>,
 }

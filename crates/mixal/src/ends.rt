@@ -1,25 +1,23 @@
-ghost use Rattle.std.specs.Prelude.{◌≡◌, ◌+◌, ◌≤◌, true, List, [], ◌∷◌, ◌++◌, map, length, IfOk, None, OnOk};
-ghost use Rattle.card.specs.Text.{padded};
-ghost use Rattle.mixal.specs.Deck.{state_of};
-ghost use Rattle.mixal.specs.Ends.{in_loc, waits, supplied_if, supplied, addressed, placed, resolved, ended};
+ghost use Rattle.std.specs.Prelude.{◌≡◌, ◌+◌, ◌≤◌, List, [], ◌∷◌, ◌++◌, map, length, IfOk, None, OnOk};
+ghost use Rattle.mixal.specs.Deck.{loc_name};
+ghost use Rattle.mixal.specs.Ends.{in_loc, waits, supplied_if, supplied, addressed, settled, placed, resolved, ended};
 ghost use Rattle.mixal.specs.Image.{with_placed, image_of};
 ghost use Rattle.mixal.specs.Steps.{Read, ended_if};
-ghost use Rattle.mixal.specs.Model.{model_of, assembled, Answers};
+ghost use Rattle.mixal.specs.Model.{model_of, progress_of, assembled, Answers};
 ghost use Rattle.names.specs.declared.kinds.Operation.TheVariants.{End};
 ghost use Rattle.symbols.specs.Symbols.{entries, known_as};
-ghost use Rattle.table.specs.Items.{items};
-ghost use Rattle.table.specs.Keys.{location_before};
-ghost use Rattle.table.specs.Pairs.{sorted};
+ghost use Rattle.table.specs.declared.name.Name.{Name};
 
 use crate::assembly::Assembly;
 use crate::cards::{define, or_zero};
 use crate::cause::{Refusal, Rejection};
-use crate::causes::{is_awaited, late_cause, loc_name};
+use crate::causes::{check_late, is_awaited};
 use crate::deck::Deck;
 use crate::draft::{Draft, Made};
 use crate::line::Line;
+use crate::progress::Progress;
+use crate::sound_card::{OperationCard, SoundCard};
 use names::Operation;
-use scan::address_text;
 use std::alloc::{AllocError, Global};
 use symbols::{Meaning, Symbols};
 use table::{Location, Name, Table};
@@ -27,85 +25,110 @@ use values::number;
 use word::{Field, Sign, Word};
 use wvalues::w_value;
 
-// Whether a name is the one that LOC defines.
-fn is_loc_name(loc: Option<Name>, name: Name) -> bool
-    ensures { result ≡ in_loc loc name }
-{
-    match loc {
-        Some(loc) => loc == name,
-        None => false,
+impl Progress {
+    // A name that waits is the location, where a word +0 is added.
+    fn supply_one(&mut self, loc: Option<Name>, name: Name) -> Result<(), AllocError>
+        requires { self.old.here ≤ 5000 }
+        ensures state { OnOk result ((ns : List Name) → progress_of self.new ns ≡ supplied_if loc (progress_of self.old ns) name) }
+        ensures step { OnOk result (self.new.here ≤ self.old.here + 1) }
+    {
+        if !is_waiting(&self.symbols, loc, name) {
+            return Ok(());
+        }
+        let location = Word::wrapping(Sign::Plus, u64::from(self.here));
+        self.symbols.give(name, Meaning::Defined(location))?;
+        self.drafts.push(Draft {
+            card: [b' '; 80],
+            made: Some(Made {
+                location: self.here,
+                word: Word::wrapping(Sign::Plus, 0),
+                awaits: None,
+            }),
+        })?;
+        self.here += 1;
+        Ok(())
+    }
+
+    // Each name that waits gets a word +0, in the order of first appearance.
+    fn supply(&mut self, loc: Option<Name>, awaited: &[Name]) -> Result<(), AllocError>
+        requires low { self.old.here ≤ 4000 }
+        requires few { length awaited.now ≤ 600 }
+        ensures { OnOk result (progress_of self.new awaited.now ≡ supplied loc awaited.now (progress_of self.old awaited.now)) }
+    {
+        for name in awaited {
+            self.supply_one(loc, *name)?;
+        }
+        Ok(())
+    }
+
+    // A good END card: its LOC is the location, and the deck comes out.
+    fn finish(self, heap: Global, card: &SoundCard<'_>, cards: usize) -> Result<Deck, AllocError>
+        requires { cards ≤ 600 }
+        ensures { IfOk result (λ d. ((ns : List Name) → assembled d ≡ ended cards (progress_of self ns) card.now.text.now)) }
+    {
+        let value = or_zero(w_value(self.scope(), card.address()));
+        let Progress {
+            here,
+            mut symbols,
+            drafts,
+        } = self;
+        let location = Word::wrapping(Sign::Plus, u64::from(here));
+        define(&mut symbols, card.loc(), location)?;
+        let lines = resolve_all(heap, &symbols, &drafts, card.columns)?;
+        let image = image_of(heap, &lines)?;
+        Ok(Deck {
+            symbols,
+            lines,
+            image,
+            start: (value.magnitude % 4096) as u16,
+            cards: cards + 1,
+        })
     }
 }
 
-// Whether a name waits at END.
+// Whether a name waits at END, but for the one that END's LOC defines.
 fn is_waiting(symbols: &Symbols, loc: Option<Name>, name: Name) -> bool
     ensures { result ≡ waits (entries symbols.now) loc name }
 {
     is_awaited(symbols.meaning(name)) && !is_loc_name(loc, name)
 }
 
-// A name that waits gets a word +0; answers the location after it.
-fn supply_one(
-    symbols: &mut Symbols,
-    drafts: &mut Vec<Draft>,
-    here: u16,
-    loc: Option<Name>,
-    name: Name,
-) -> Result<u16, AllocError>
-    requires { here ≤ 5000 }
-    ensures { IfOk result (λ h. ((ns : List Name) → state_of h (entries symbols.new) ns drafts.new.items ≡ supplied_if loc (state_of here (entries symbols.old) ns drafts.old.items) name) × (h ≤ here + 1)) }
+// Whether a name is the one that LOC defines.
+fn is_loc_name(loc: Option<Name>, name: Name) -> bool
+    ensures { result ≡ in_loc loc name }
 {
-    if !is_waiting(symbols, loc, name) {
-        return Ok(here);
-    }
-    let location = Word::wrapping(Sign::Plus, u64::from(here));
-    symbols.give(name, Meaning::Defined(location))?;
-    drafts.push(Draft {
-        card: [b' '; 80],
-        made: Made::Whole(here, Word::wrapping(Sign::Plus, 0)),
-    })?;
-    Ok(here + 1)
-}
-
-// Each name that waits gets a word +0, in the order of first appearance; answers the location after them.
-fn supply(
-    symbols: &mut Symbols,
-    drafts: &mut Vec<Draft>,
-    here: u16,
-    loc: Option<Name>,
-    awaited: &[Name],
-) -> Result<u16, AllocError>
-    requires { (here ≤ 4000) × (length awaited.now ≤ 600) }
-    ensures { IfOk result (λ h. state_of h (entries symbols.new) awaited.now drafts.new.items ≡ supplied loc awaited.now (state_of here (entries symbols.old) awaited.now drafts.old.items)) }
-{
-    let mut after = here;
-    for name in awaited {
-        after = supply_one(symbols, drafts, after, loc, *name)?;
-    }
-    Ok(after)
+    loc == Some(name)
 }
 
 // An instruction's word with the value of the symbol that it waited for.
 fn address(symbols: &Symbols, name: Name, word: Word) -> Word
     ensures { result ≡ addressed (known_as (entries symbols.now) name) word }
 {
-    match symbols.word(name) {
-        Some(value) => word.with_field(Field { left: 0, right: 2 }, number(value)),
-        None => word,
-    }
+    symbols.word(name).map_or(word, |value| {
+        word.with_field(Field { left: 0, right: 2 }, number(value))
+    })
+}
+
+// A word with the value of the symbol that it waits for, if it waits for one.
+fn settle(symbols: &Symbols, awaits: Option<Name>, word: Word) -> Word
+    ensures { result ≡ settled (entries symbols.now) awaits word }
+{
+    awaits.map_or(word, |name| address(symbols, name, word))
 }
 
 // What a draft comes to, with its location.
-fn place(symbols: &Symbols, made: Made) -> Option<(u16, Word)>
+fn place(symbols: &Symbols, made: Option<Made>) -> Option<(u16, Word)>
     ensures { result ≡ placed (entries symbols.now) made }
 {
-    match made {
-        Made::Nothing => None,
-        Made::Whole(location, word) => Some((location, word)),
-        Made::Future(location, name, word) => Some((location, address(symbols, name, word))),
-    }
+    let Made {
+        location,
+        word,
+        awaits,
+    } = made?;
+    Some((location, settle(symbols, awaits, word)))
 }
 
+// The line of a draft.
 fn resolve(symbols: &Symbols, draft: Draft) -> Line
     ensures { result ≡ resolved (entries symbols.now) draft }
 {
@@ -136,18 +159,17 @@ fn resolve_all(
 
 // A word put at its location, if there is one.
 fn put_placed(image: &mut Table<Location, Word>, at: Option<(u16, Word)>) -> Result<(), AllocError>
-    ensures order { sorted location_before (items image.old) ≡ true → sorted location_before (items image.new) ≡ true }
-    ensures pairs { OnOk result (sorted location_before (items image.old) ≡ true → items image.new ≡ with_placed (items image.old) at) }
+    ensures { OnOk result (image.new ≡ with_placed image.old at) }
 {
     match at {
-        Some(pair) => image.insert(Location(pair.0), pair.1),
+        Some((location, word)) => image.insert(Location(location), word),
         None => Ok(()),
     }
 }
 
 // The words of the lines by location.
 fn image_of(heap: Global, lines: &[Line]) -> Result<Table<Location, Word>, AllocError>
-    ensures { IfOk result (λ t. items t ≡ image_of lines.now) }
+    ensures { IfOk result (λ t. t ≡ image_of lines.now) }
 {
     let mut image = Table::new(heap);
     for line in lines {
@@ -156,57 +178,28 @@ fn image_of(heap: Global, lines: &[Line]) -> Result<Table<Location, Word>, Alloc
     Ok(image)
 }
 
-// A good END card: its LOC is the location, and the deck comes out.
-fn finish(
-    heap: Global,
-    symbols: Symbols,
-    drafts: Vec<Draft>,
-    here: u16,
-    card: &[u8],
-    columns: [u8; 80],
-    cards: usize,
-) -> Result<Deck, AllocError>
-    requires { (columns ≡ padded card.now) × (cards ≤ 600) }
-    ensures { IfOk result (λ d. ((ns : List Name) → assembled d ≡ ended cards (state_of here (entries symbols) ns drafts.items) card.now)) }
-{
-    let mut symbols = symbols;
-    let value = or_zero(w_value(&symbols, here, address_text(card)));
-    let location = Word::wrapping(Sign::Plus, u64::from(here));
-    define(&mut symbols, loc_name(card), location)?;
-    let lines = resolve_all(heap, &symbols, &drafts, columns)?;
-    let image = image_of(heap, &lines)?;
-    Ok(Deck {
-        symbols,
-        lines,
-        image,
-        start: (value.magnitude % 4096) as u16,
-        cards: cards + 1,
-    })
-}
-
 impl Assembly {
     // END: the causes from 6 on, and the deck that comes out.
-    pub(crate) fn end(self, heap: Global, card: &[u8], columns: [u8; 80]) -> Result<Deck, Refusal>
-        requires { Read (model_of self) card.now End columns }
-        ensures { Answers result (ended_if (model_of self) card.now) }
+    pub(crate) fn end(self, heap: Global, card: &SoundCard<'_>) -> Result<Deck, Refusal>
+        requires { Read (model_of self) card.now.text.now End }
+        ensures { Answers result (ended_if (model_of self) card.now.text.now) }
     {
         let Assembly {
-            here,
-            symbols,
+            mut progress,
             awaited,
-            drafts,
         } = self;
-        let mut symbols = symbols;
-        let mut drafts = drafts;
-        let cards = drafts.len();
-        let here = supply(&mut symbols, &mut drafts, here, loc_name(card), &awaited)?;
-        if let Some(cause) = late_cause(&symbols, here, card, Operation::End, false) {
+        let cards = progress.drafts.len();
+        progress.supply(card.loc(), &awaited)?;
+        let end = OperationCard {
+            sound: *card,
+            operation: Operation::End,
+        };
+        if let Err(cause) = check_late(progress.scope(), &end, false) {
             return Err(Refusal::Rejected(Rejection {
                 cause,
                 card: cards + 1,
             }));
         }
-        let deck = finish(heap, symbols, drafts, here, card, columns, cards)?;
-        Ok(deck)
+        Ok(progress.finish(heap, card, cards)?)
     }
 }

@@ -10,10 +10,12 @@ mod decks;
 mod draft;
 mod ends;
 mod line;
+mod progress;
 mod reading;
 mod refusals;
+mod sound_card;
+mod sound_cards;
 mod steps;
-mod verdict;
 
 pub use cause::{Cause, Refusal, Rejection};
 pub use deck::Deck;

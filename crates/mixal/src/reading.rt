@@ -6,6 +6,7 @@ ghost use Rattle.mixal.specs.Model.{model_of, Answers};
 use crate::assembly::Assembly;
 use crate::cause::{Cause, Refusal, Rejection};
 use crate::deck::Deck;
+use crate::progress::Progress;
 use card::first_card;
 use std::alloc::Global;
 use symbols::Symbols;
@@ -16,26 +17,28 @@ pub fn assemble(heap: Global, text: &[u8]) -> Result<Deck, Refusal>
 {
     let mut assembly = start(heap);
     let mut rest = text;
-    while let Some((card, next)) = first_card(rest) {
-        if let Some(columns) = assembly.step(card, next.is_empty())? {
-            return assembly.end(heap, card, columns);
+    while let Some((text, next)) = first_card(rest) {
+        if let Some(card) = assembly.step(text, next.is_empty())? {
+            return assembly.end(heap, &card);
         }
         rest = next;
     }
-    let card = assembly.drafts.len();
     Err(Refusal::Rejected(Rejection {
         cause: Cause::NoEnd,
-        card,
+        card: assembly.progress.drafts.len(),
     }))
 }
 
+// Before the first card.
 fn start(heap: Global) -> Assembly
     ensures { model_of result ≡ fresh }
 {
     Assembly {
-        here: 0,
-        symbols: Symbols::new(heap),
+        progress: Progress {
+            here: 0,
+            symbols: Symbols::new(heap),
+            drafts: Vec::new(heap),
+        },
         awaited: Vec::new(heap),
-        drafts: Vec::new(heap),
     }
 }

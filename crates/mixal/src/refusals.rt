@@ -6,25 +6,15 @@ use crate::cause::{Cause, Refusal};
 use std::alloc::AllocError;
 
 impl Cause {
-    // The number of the rejection.
+    // The number of the rejection. No `From`: a number alone does not say that it is one.
     pub fn number(self) -> u8
         ensures { result ≡ number_of self }
     {
-        match self {
-            Cause::Text => 1,
-            Cause::Columns => 2,
-            Cause::DefinedTwice => 3,
-            Cause::Operation => 4,
-            Cause::Address => 5,
-            Cause::Undefined => 6,
-            Cause::Range => 7,
-            Cause::NoEnd => 8,
-            Cause::TooManySymbols => 9,
-        }
+        self as u8
     }
 }
 
-// Want of memory.
+// Want of memory. A derive would be no plainer: contracts read `from_gives`, which none writes.
 impl From<AllocError> for Refusal {
     ghost from_gives = { λ _ r. r ≡ NoMemory };
 

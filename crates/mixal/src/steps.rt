@@ -1,5 +1,5 @@
-ghost use Rattle.std.specs.Prelude.{◌≡◌, suc, ◌<◌, true, false, length, Some};
-ghost use Rattle.card.specs.Text.{padded, sound};
+ghost use Rattle.std.specs.Prelude.{◌≡◌, suc, ◌<◌, Bool, false, length, Some, MatchResult};
+ghost use Rattle.mixal.specs.Causes.{cause_of};
 ghost use Rattle.mixal.specs.Deck.{is_end_of};
 ghost use Rattle.mixal.specs.Model.{model_of};
 ghost use Rattle.mixal.specs.Steps.{Judges, Read, Steps, Takes};
@@ -8,96 +8,95 @@ ghost use Rattle.scan.specs.Columns.{is_remark};
 
 use crate::assembly::Assembly;
 use crate::cause::{Cause, Refusal, Rejection};
-use crate::causes::{bad_columns, is_known, is_unreadable, late_cause, loc_name};
-use crate::verdict::Verdict;
-use card::reproduce;
+use crate::causes::{bad_columns, check_late, is_known, is_unreadable};
+use crate::draft::Draft;
+use crate::sound_card::{OperationCard, SoundCard};
 use names::{Operation, operation};
-use scan::{address_text, is_remark, op_text};
+use scan::{is_remark, op_text};
+use std::alloc::AllocError;
 
 impl Assembly {
-    // The causes 1 to 5.
-    fn judge(&self, card: &[u8]) -> Verdict
-        ensures { Judges (model_of self.now) card.now result }
+    // The causes 1 to 5: the card, and its operation, of which a remark has none.
+    fn judge<'a>(&self, text: &'a [u8]) -> Result<(SoundCard<'a>, Option<Operation>), Cause>
+        ensures { Judges (model_of self.now) text.now result }
     {
-        if self.drafts.len() >= 600 {
-            return Verdict::Bad(Cause::Text);
+        if self.progress.drafts.len() >= 600 {
+            return Err(Cause::Text);
         }
-        let Some(columns) = reproduce(card) else {
-            return Verdict::Bad(Cause::Text);
-        };
-        if is_remark(card) {
-            return Verdict::Remark(columns);
+        let card = SoundCard::read(text).ok_or(Cause::Text)?;
+        if is_remark(text) {
+            return Ok((card, None));
         }
-        self.judge_columns(card, columns)
+        let operation = self.operation_of(&card)?;
+        Ok((card, Some(operation)))
     }
 
-    // The causes 2 to 5, of a card that is no remark.
-    fn judge_columns(&self, card: &[u8], columns: [u8; 80]) -> Verdict
-        requires { (is_remark card.now ≡ false) × ((columns ≡ padded card.now) × ((sound card.now ≡ true) × (length self.now.drafts.items < 600))) }
-        ensures { Judges (model_of self.now) card.now result }
+    // The causes 2 to 5, of a card that is no remark: its operation.
+    fn operation_of(&self, card: &SoundCard<'_>) -> Result<Operation, Cause>
+        requires remark { is_remark card.now.text.now ≡ false }
+        requires room { length self.now.progress.drafts.items < 600 }
+        ensures { MatchResult result (Read (model_of self.now) card.now.text.now) (λ x. (last : Bool) → cause_of last (model_of self.now) card.now.text.now ≡ Some x) }
     {
-        if bad_columns(card) {
-            return Verdict::Bad(Cause::Columns);
+        if bad_columns(card.text) {
+            return Err(Cause::Columns);
         }
-        if is_known(&self.symbols, loc_name(card)) {
-            return Verdict::Bad(Cause::DefinedTwice);
+        if is_known(&self.progress.symbols, card.loc()) {
+            return Err(Cause::DefinedTwice);
         }
-        let Some(operation) = operation(op_text(card)) else {
-            return Verdict::Bad(Cause::Operation);
-        };
-        if is_unreadable(address_text(card), operation) {
-            return Verdict::Bad(Cause::Address);
+        let operation = operation(op_text(card.text)).ok_or(Cause::Operation)?;
+        if is_unreadable(card.address(), operation) {
+            return Err(Cause::Address);
         }
-        Verdict::Card(operation, columns)
+        Ok(operation)
     }
 
-    // One card more. An END card is left to be done, and its columns are told.
-    // `last` says that no card follows.
-    pub(crate) fn step(&mut self, card: &[u8], last: bool) -> Result<Option<[u8; 80]>, Refusal>
-        ensures { Steps last (model_of self.old) card.now (model_of self.new) result }
+    // One card more. An END card is left to be done, and is told. `last` says that no card follows.
+    pub(crate) fn step<'a>(
+        &mut self,
+        text: &'a [u8],
+        last: bool,
+    ) -> Result<Option<SoundCard<'a>>, Refusal>
+        ensures { Steps last (model_of self.old) text.now (model_of self.new) result }
     {
-        match self.judge(card) {
-            Verdict::Bad(cause) => Err(self.rejected(cause)),
-            Verdict::Remark(columns) => {
-                if last {
-                    return Err(self.rejected(Cause::NoEnd));
-                }
-                self.remark(card, columns)?;
+        match self.judge(text) {
+            Err(cause) => Err(self.rejected(cause)),
+            Ok((_, None)) if last => Err(self.rejected(Cause::NoEnd)),
+            Ok((sound, None)) => {
+                let draft = Draft {
+                    card: sound.columns,
+                    made: None,
+                };
+                self.progress.drafts.push(draft).map_err(AllocError::from)?;
                 Ok(None)
             }
-            Verdict::Card(Operation::End, columns) => Ok(Some(columns)),
-            Verdict::Card(operation, columns) => {
-                self.take(card, columns, operation, last)?;
+            Ok((sound, Some(Operation::End))) => Ok(Some(sound)),
+            Ok((sound, Some(operation))) => {
+                self.take(&OperationCard { sound, operation }, last)?;
                 Ok(None)
             }
         }
     }
 
     // A card whose operation is not END: the causes from 6 on, and what a good one does.
-    fn take(
-        &mut self,
-        card: &[u8],
-        columns: [u8; 80],
-        operation: Operation,
-        last: bool,
-    ) -> Result<(), Refusal>
-        requires { (Read (model_of self.old) card.now operation columns) × (is_end_of (Some operation) ≡ false) }
-        ensures { Takes last (model_of self.old) card.now (model_of self.new) result }
+    fn take(&mut self, card: &OperationCard<'_>, last: bool) -> Result<(), Refusal>
+        requires read { Read (model_of self.old) card.now.sound.text.now card.now.operation }
+        requires open { is_end_of (Some card.now.operation) ≡ false }
+        ensures { Takes last (model_of self.old) card.now.sound.text.now (model_of self.new) result }
     {
-        if let Some(cause) = late_cause(&self.symbols, self.here, card, operation, last) {
+        if let Err(cause) = check_late(self.progress.scope(), card, last) {
             return Err(self.rejected(cause));
         }
-        self.operate(card, columns, operation)?;
+        self.operate(card)?;
         Ok(())
     }
 
     // The next card is rejected.
     pub(crate) fn rejected(&self, cause: Cause) -> Refusal
-        ensures { result ≡ Rejected (record { cause = cause; card = suc (length self.now.drafts.items) }) }
+        ensures { result ≡ Rejected (record { cause = cause; card = suc (length self.now.progress.drafts.items) }) }
     {
         Refusal::Rejected(Rejection {
             cause,
-            card: self.drafts.len() + 1,
+            card: self.progress.drafts.len() + 1,
         })
     }
 }

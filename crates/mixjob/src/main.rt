@@ -1,23 +1,24 @@
 // mixjob: reads cards from standard input, punches each again, and prints them.
 #![tactic(auto)]
 
-use std::io::Read;
+ghost use Rattle.copies.specs.Copies.{report};
+
+use console::{Report, filter, status};
+use std::alloc::{AllocError, Global};
 use std::process::ExitCode;
 
-fn run(rt: &HostRuntime) -> anyhow::Result<()> {
-    let mut text = Vec::new(rt.alloc());
-    rt.stdin().read_to_end(&mut text)?;
-    let report = copies::copied(rt.alloc(), &text)?;
-    rt.stdout().write_all(&report)?;
-    Ok(())
+// The cards that are read, punched again.
+struct Copies;
+
+impl Report for Copies {
+    ghost text = { report };
+
+    fn report(heap: Global, input: &[u8]) -> Result<Vec<u8>, AllocError> {
+        copies::copied(heap, input)
+    }
 }
 
 fn main(rt: HostRuntime) -> ExitCode {
-    match run(&rt) {
-        Ok(()) => ExitCode::SUCCESS,
-        Err(why) => {
-            let _ = eprintln!(rt; "mixjob: {why}");
-            ExitCode::FAILURE
-        }
-    }
+    let outcome = filter::<Copies, _, _>(rt.alloc(), &mut rt.stdin(), &mut rt.stdout());
+    status(&rt, "mixjob", outcome)
 }

@@ -1,23 +1,24 @@
 // mixlist: reads a deck from standard input, and prints its listing and its symbols, or its rejection.
 #![tactic(auto)]
 
-use std::io::Read;
+ghost use Rattle.jobs.specs.Jobs.{printed};
+
+use console::{Report, filter, status};
+use std::alloc::{AllocError, Global};
 use std::process::ExitCode;
 
-fn run(rt: &HostRuntime) -> anyhow::Result<()> {
-    let mut input = Vec::new(rt.alloc());
-    rt.stdin().read_to_end(&mut input)?;
-    let report = jobs::report(rt.alloc(), &input)?;
-    rt.stdout().write_all(&report)?;
-    Ok(())
+// The deck that is read, listed or rejected.
+struct Listing;
+
+impl Report for Listing {
+    ghost text = { printed };
+
+    fn report(heap: Global, input: &[u8]) -> Result<Vec<u8>, AllocError> {
+        jobs::report(heap, input)
+    }
 }
 
 fn main(rt: HostRuntime) -> ExitCode {
-    match run(&rt) {
-        Ok(()) => ExitCode::SUCCESS,
-        Err(why) => {
-            let _ = eprintln!(rt; "mixlist: {why}");
-            ExitCode::FAILURE
-        }
-    }
+    let outcome = filter::<Listing, _, _>(rt.alloc(), &mut rt.stdin(), &mut rt.stdout());
+    status(&rt, "mixlist", outcome)
 }

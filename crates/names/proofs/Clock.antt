@@ -1,5 +1,6 @@
 -- The rules of the times.
-use Rattle.std.proofs.Common.{◌≡◌, ℕ, zero, suc, ◌+◌, ◌*◌, ◌<◌, ◌≤◌, Bool, true, cond, ◌&&◌, eqb, leb, List, [], ◌∷◌, length, get_or, sym, refl, ap, ◌∙◌, arith}
+use Rattle.std.proofs.Common.{◌≡◌, ℕ, zero, suc, ◌+◌, ◌*◌, ◌<◌, ◌≤◌, Bool, true, cond, ◌&&◌, eqb, leb, sym, refl, ap, ◌∙◌, arith}
+use Rattle.std.proofs.lemmas.List.{get_or_past}
 use Rattle.std.proofs.lemmas.Bool.{cond-false, ne_eqb, le-leb, leb-true}
 use Rattle.std.proofs.lemmas.Bool.Decides.{Decides-below_and}
 use Rattle.names.specs.Times.{times, base_time, time_of, TimeLaws}
@@ -20,14 +21,9 @@ all_busy = refl
 takes : (k : ℕ) → k < 64 → 1 ≤ base_time k
 takes = (Decides-below_and (λ k. leb 1 (base_time k)) (λ k. 1 ≤ base_time k) busy (λ k. (leb-true 1 (base_time k), le-leb 1 (base_time k))) refl (λ _. refl) 64).0 all_busy
 
-past_end : (xs : List ℕ) (k : ℕ) → length xs ≤ k → get_or xs k 0 ≡ 0
-past_end [] k h = refl
-past_end (x ∷ xs) zero h = absurd (omega arith)
-past_end (x ∷ xs) (suc k) h = past_end xs k (omega arith)
-
 pub past : (k : ℕ) → 64 ≤ k → base_time k ≡ 0
 unfolding times
-past k h = past_end times k h
+past k h = get_or_past times k 0 h
 
 none_is : (k n : ℕ) → 64 ≤ k → time_of k n ≡ 0
 none_is k n h =

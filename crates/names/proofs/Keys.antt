@@ -1,10 +1,6 @@
 -- A name of four bytes is known by its number.
 use Rattle.std.proofs.Common.{◌≡◌, ℕ, zero, suc, ◌<◌, List, length, get_or, sym, ◌∙◌, arith, ext_get_or}
-use Rattle.names.specs.Order.{key_of}
-
--- four bytes
-abbrev pub Columns : List ℕ → Type 0
-Columns w = (length w ≡ 4) × (get_or w 0 0 < 256) × (get_or w 1 0 < 256) × (get_or w 2 0 < 256) × (get_or w 3 0 < 256)
+use Rattle.names.specs.Order.{key_of, Columns}
 
 pub key_same : (v w : List ℕ) → Columns v → Columns w → key_of v ≡ key_of w → v ≡ w
 key_same v w p q e = ext_get_or 0 v w (p.0 ∙ sym q.0) at

@@ -1,25 +1,26 @@
 -- Lines of a table: the first that passes a test, tests at each line and at each two, and the order of the names.
 use Rattle.std.proofs.Common.{◌≡◌, ℕ, zero, suc, ◌<◌, Bool, true, false, cond, not, ◌&&◌, ltb, ◌⊎◌, List, [], ◌∷◌, length, get_or, Some, None, sym, refl, ap, ◌∙◌, inl, inr, arith}
 use Rattle.std.proofs.lemmas.Bool.{and_parts, both_ways, not-true, ltb-true}
-use Rattle.names.specs.Names.{Line, first}
+use Rattle.std.specs.List.{find}
+use Rattle.names.specs.Names.{Line}
 use Rattle.names.specs.Order.{key_of, insert, sorted}
 use Rattle.names.specs.Laws.{Stands}
 
 -- what is found stands there, and passes
-pub first_some : (test : Line → Bool) (ls : List Line) (l : Line) → first test ls ≡ Some l → Stands ls l × (test l ≡ true)
-first_some test [] l e = let z : ◌≡◌ {A = ℕ} 0 1 = cc in absurd (omega arith)
-first_some test (m ∷ ms) l e = at (test m) refl e (first_some test ms l)
+pub find_some : (test : Line → Bool) (ls : List Line) (l : Line) → find test ls ≡ Some l → Stands ls l × (test l ≡ true)
+find_some test [] l e = let z : ◌≡◌ {A = ℕ} 0 1 = cc in absurd (omega arith)
+find_some test (m ∷ ms) l e = at (test m) refl e (find_some test ms l)
   where
-    at : (b : Bool) → test m ≡ b → cond b (Some m) (first test ms) ≡ Some l → (first test ms ≡ Some l → Stands ms l × (test l ≡ true)) → ((m ≡ l) ⊎ Stands ms l) × (test l ≡ true)
+    at : (b : Bool) → test m ≡ b → cond b (Some m) (find test ms) ≡ Some l → (find test ms ≡ Some l → Stands ms l × (test l ≡ true)) → ((m ≡ l) ⊎ Stands ms l) × (test l ≡ true)
     at true f g rec = let h : m ≡ l = cc in (inl h, ap test (sym h) ∙ f)
     at false f g rec = let r = rec g in (inr r.0, r.1)
 
 -- where none is found, none passes
-pub first_none : (test : Line → Bool) (ls : List Line) → first test ls ≡ None → (l : Line) → Stands ls l → test l ≡ true → ⊥
-first_none test [] e l s p = s
-first_none test (m ∷ ms) e l s p = at (test m) refl e (first_none test ms) s
+pub find_none : (test : Line → Bool) (ls : List Line) → find test ls ≡ None → (l : Line) → Stands ls l → test l ≡ true → ⊥
+find_none test [] e l s p = s
+find_none test (m ∷ ms) e l s p = at (test m) refl e (find_none test ms) s
   where
-    at : (b : Bool) → test m ≡ b → cond b (Some m) (first test ms) ≡ None → (first test ms ≡ None → (l : Line) → Stands ms l → test l ≡ true → ⊥) → (m ≡ l) ⊎ Stands ms l → ⊥
+    at : (b : Bool) → test m ≡ b → cond b (Some m) (find test ms) ≡ None → (find test ms ≡ None → (l : Line) → Stands ms l → test l ≡ true → ⊥) → (m ≡ l) ⊎ Stands ms l → ⊥
     at true f g rec s = let z : ◌≡◌ {A = ℕ} 0 1 = cc in omega arith
     at false f g rec (inl h) = both_ways (test m) f (ap test h ∙ p)
     at false f g rec (inr h) = rec g l h p

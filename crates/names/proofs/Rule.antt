@@ -9,9 +9,8 @@ use Rattle.names.specs.declared.kinds.Instruction.{Instruction}
 use Rattle.names.specs.declared.kinds.Operation.{Operation}
 use Rattle.names.specs.declared.kinds.Operation.TheVariants.{Machine, Equ, Orig, Con, Alf, End}
 use Rattle.names.specs.Names.{Line, table, called, instruction_of, coded, known, missing_field, lists_field}
-use Rattle.names.specs.Order.{ordered}
+use Rattle.names.specs.Order.{Columns, ordered}
 use Rattle.names.specs.Laws.{Stands, Fit, Mark, Spelled}
-use Rattle.names.proofs.Keys.{Columns}
 use Rattle.names.proofs.Lines.{every, every_at, apart, apart_at, rising}
 
 -- two instructions of one code, and of one field where the table lists it

@@ -5,7 +5,6 @@ use Rattle.names.specs.declared.kinds.Instruction.{Instruction}
 use Rattle.names.specs.declared.kinds.Operation.{Operation}
 use Rattle.names.specs.declared.kinds.Operation.TheVariants.{Machine}
 use Rattle.names.specs.Names.{Line, table, operation_of, name_of, instruction_of, missing_field, lists_field}
-use Rattle.names.specs.Order.{line_at}
 
 -- a line stands in a table
 abbrev pub Stands : List Line → Line → Type 0
@@ -49,13 +48,3 @@ Fit (Some i) = (i.c < 64) × (i.f < 64)
 abbrev pub Bytes : Option Operation → Type 0
 Bytes None = Unit {0}
 Bytes (Some o) = Fit (instruction_of o)
-
--- where a name leads: the place of its line in the order of the names
-abbrev pub Leads : List ℕ → Option ℕ → Type 0
-Leads w None = operation_of w ≡ None
-Leads w (Some p) = (p < 147) × (operation_of w ≡ Some (line_at p).1)
-
--- where the code k and the F n lead
-abbrev pub Spells : ℕ → ℕ → Option ℕ → Type 0
-Spells k n None = name_of k n ≡ None
-Spells k n (Some p) = (p < 147) × (name_of k n ≡ Some (line_at p).0)

@@ -1,6 +1,7 @@
 -- The operation names of MIXAL, and what each stands for.
 use Rattle.std.specs.Prelude.{ℕ, suc, Bool, false, cond, not, ◌&&◌, ◌||◌, List, [], ◌∷◌, ◌++◌, map, take, Some, None, codes, Option, ◌==◌, nat_le}
 use Prim.Native.String.{String}
+use Rattle.std.specs.List.{find}
 use Rattle.std.specs.Option.{option_map}
 use Rattle.std.specs.Str.{bytes_eq}
 use Rattle.names.specs.declared.kinds.Instruction.{Instruction}
@@ -66,18 +67,13 @@ table =
     ++ up_from 56 (map (λ r. codes "CMP" ++ r) registers)
     ++ (codes "EQU ", Equ) ∷ (codes "ORIG", Orig) ∷ (codes "CON ", Con) ∷ (codes "ALF ", Alf) ∷ (codes "END ", End) ∷ []
 
--- the first line that passes a test
-abbrev pub first : (Line → Bool) → List Line → Option Line
-first test [] = None
-first test (l ∷ ls) = cond (test l) (Some l) (first test ls)
-
 -- whether a line has a name
 abbrev pub called : List ℕ → Line → Bool
 called w l = bytes_eq l.0 w
 
 -- what a name of four columns stands for
 unfoldable pub operation_of : List ℕ → Option Operation
-operation_of w = option_map (λ l. l.1) (first (called w) table)
+operation_of w = option_map (λ l. l.1) (find (called w) table)
 
 -- whether the table lists an F with the code k, so that it tells names apart
 abbrev pub lists_field : ℕ → Bool
@@ -103,4 +99,4 @@ known k n l = coded k n (instruction_of l.1)
 
 -- the name of the operation of a code and an F
 unfoldable pub name_of : ℕ → ℕ → Option (List ℕ)
-name_of k n = option_map (λ l. l.0) (first (known k n) table)
+name_of k n = option_map (λ l. l.0) (find (known k n) table)

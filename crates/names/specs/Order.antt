@@ -1,7 +1,11 @@
 -- The table in the order of the names, and the names as numbers.
-use Rattle.std.specs.Prelude.{ℕ, ◌+◌, ◌*◌, cond, List, [], ◌∷◌, nat_lt, slice_index, slice_index_or}
+use Rattle.std.specs.Prelude.{◌≡◌, ℕ, ◌<◌, length, ◌+◌, ◌*◌, cond, List, [], ◌∷◌, nat_lt, slice_index, slice_index_or}
 use Rattle.names.specs.declared.kinds.Operation.TheVariants.{Machine}
 use Rattle.names.specs.Names.{Line, table}
+
+-- four bytes
+abbrev pub Columns : List ℕ → Type 0
+Columns w = (length w ≡ 4) × (slice_index w 0 < 256) × (slice_index w 1 < 256) × (slice_index w 2 < 256) × (slice_index w 3 < 256)
 
 -- four columns as a number, the first counting most
 abbrev pub key_of : List ℕ → ℕ

@@ -7,5 +7,4 @@ mod table;
 mod times;
 
 pub use kinds::{Instruction, Operation};
-pub use lookup::{name, operation};
-pub use times::time;
+pub use lookup::operation;

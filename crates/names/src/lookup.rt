@@ -1,85 +1,50 @@
 ghost use Rattle.std.specs.Prelude.{◌≡◌};
-ghost use Rattle.names.specs.Laws.{Bytes, Leads, NameLaws, Spells};
+ghost use Rattle.names.specs.Laws.{Bytes, NameLaws};
 ghost use Rattle.names.specs.Names.{coded, instruction_of, lists_field, name_of, operation_of};
-ghost use Rattle.names.specs.Order.{key_of};
+ghost use Rattle.names.specs.Order.{Columns, key_of};
 
-use super::kinds::Operation;
-use super::table::{LINES, entry, spelling};
+use super::kinds::{Instruction, Operation};
+use super::table::TABLE;
 
 // What a name stands for: four columns, with blanks after a shorter name.
+#[tactic(auto, using(crate::proofs::Found::name_laws))]
 pub fn operation(name: [u8; 4]) -> Option<Operation>
     ensures value { result ≡ operation_of name }
     ensures bytes { Bytes result }
     ensures rule { NameLaws }
 {
-    match place_of(name) {
-        Some(place) => Some(entry(place)),
-        None => None,
-    }
-}
-
-// The name of the operation with a C and an F. The F counts where it tells operations of one C apart.
-pub fn name(c: u8, f: u8) -> Option<[u8; 4]>
-    ensures value { result ≡ name_of c f }
-    ensures rule { NameLaws }
-{
-    match place_of_code(c, f) {
-        Some(place) => Some(spelling(place)),
-        None => None,
-    }
-}
-
-// The place of a name in the table, by halves.
-fn place_of(name: [u8; 4]) -> Option<usize>
-    ensures leads { Leads name result }
-    ensures rule { NameLaws }
-{
     let wanted = key(name);
-    let mut low = 0;
-    let mut high = LINES;
-    while low < high {
-        let middle = low + (high - low) / 2;
-        let there = key(spelling(middle));
-        if there == wanted {
-            return Some(middle);
-        }
-        if there < wanted {
-            low = middle + 1;
-        } else {
-            high = middle;
-        }
+    TABLE
+        .binary_search_by_key(&wanted, |line| key(line.0))
+        .ok()
+        .map(|place| TABLE[place].1)
+}
+
+impl Instruction {
+    // The name of the operation with this C and F. The F counts where it tells operations of one C apart.
+    #[tactic(auto, using(crate::proofs::Found::name_laws))]
+    pub fn name(self) -> Option<[u8; 4]>
+        ensures value { result ≡ name_of self.c self.f }
+        ensures rule { NameLaws }
+    {
+        let (name, _) = TABLE.iter().find(|line| is_of(line.1, self))?;
+        Some(*name)
     }
-    None
 }
 
 // A name as a number, by which names are ordered.
 fn key(name: [u8; 4]) -> u32
-    ensures { result ≡ key_of name }
+    ensures value { result ≡ key_of name }
+    ensures columns { Columns name }
 {
     u32::from_be_bytes(name)
 }
 
-// The place of the operation with a C and an F.
-fn place_of_code(c: u8, f: u8) -> Option<usize>
-    ensures leads { Spells c f result }
-    ensures rule { NameLaws }
+// Whether an operation is that of an instruction's C and F.
+fn is_of(found: Operation, wanted: Instruction) -> bool
+    ensures { result ≡ coded wanted.c wanted.f (instruction_of found) }
 {
-    for place in 0..LINES {
-        if is_of(entry(place), c, f) {
-            return Some(place);
-        }
-    }
-    None
-}
-
-// Whether an operation is that of a C and an F.
-fn is_of(found: Operation, c: u8, f: u8) -> bool
-    ensures { result ≡ coded c f (instruction_of found) }
-{
-    match found {
-        Operation::Machine(i) => i.c == c && (i.f == f || !lists_field(c)),
-        _ => false,
-    }
+    matches!(found, Operation::Machine(i) if i.c == wanted.c && (i.f == wanted.f || !lists_field(wanted.c)))
 }
 
 // Whether the F tells operations of one C apart.

@@ -1,16 +1,8 @@
-ghost use Rattle.std.specs.Prelude.{◌≡◌, ◌<◌};
-ghost use Rattle.names.specs.Laws.{Fit};
-ghost use Rattle.names.specs.Names.{instruction_of};
-ghost use Rattle.names.specs.Order.{line_at};
-
 use super::kinds::Operation::{Alf, Con, End, Equ, Machine, Orig};
 use super::kinds::{Instruction, Operation};
 
-// The number of names.
-pub(crate) const LINES: usize = 147;
-
 // The names in their order (a blank, the digits, the letters), and what each stands for.
-static TABLE: [([u8; 4], Operation); LINES] = [
+pub(crate) static TABLE: [([u8; 4], Operation); 147] = [
     (*b"ADD ", Machine(Instruction { c: 1, f: 5 })),
     (*b"ALF ", Alf),
     (*b"CMP1", Machine(Instruction { c: 57, f: 5 })),
@@ -159,20 +151,3 @@ static TABLE: [([u8; 4], Operation); LINES] = [
     (*b"STZ ", Machine(Instruction { c: 33, f: 5 })),
     (*b"SUB ", Machine(Instruction { c: 2, f: 5 })),
 ];
-
-// The name at a place.
-pub(crate) fn spelling(place: usize) -> [u8; 4]
-    requires { place < 147 }
-    ensures { result ≡ (line_at place).0 }
-{
-    TABLE[place].0
-}
-
-// What the name at a place stands for.
-pub(crate) fn entry(place: usize) -> Operation
-    requires { place < 147 }
-    ensures value { result ≡ (line_at place).1 }
-    ensures bytes { Fit (instruction_of result) }
-{
-    TABLE[place].1
-}

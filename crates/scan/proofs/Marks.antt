@@ -1,23 +1,16 @@
 -- Letters and digits, and the codes of a symbol.
-use Rattle.std.proofs.Common.{◌≡◌, ℕ, zero, suc, ◌+◌, ◌-◌, ◌<◌, ◌≤◌, Bool, true, false, cond, ◌&&◌, ◌||◌, eqb, leb, List, [], ◌∷◌, ◌++◌, map, length, get_or, take, drop, set, replicate, is_some, Some, None, Option, sym, refl, ap, ◌∙◌, arith}
-use Rattle.std.proofs.lemmas.List.{at_drop_more, at_drop_all, append-nil, map-append, drop-drop, drop-replicate, drop-set-lt, take-append-drop}
-use Rattle.std.proofs.lemmas.Bool.{and_parts, leb-true}
+use Rattle.std.proofs.Common.{◌≡◌, ℕ, zero, suc, ◌-◌, ◌<◌, ◌≤◌, Bool, true, false, cond, ◌&&◌, eqb, leb, List, [], ◌∷◌, ◌++◌, map, length, replicate, is_some, IfSome, Some, None, Option, sym, refl, ap, ◌∙◌, arith}
+use Rattle.std.proofs.lemmas.List.{map-append}
+use Rattle.std.proofs.lemmas.Bool.{and_parts, leb-true, le-leb, cond-true}
 use Rattle.std.proofs.lemmas.Bool.Decides.{nat_tests}
 use Rattle.std.specs.Option.{option_map}
 use Rattle.card.specs.Lines.{trimmed}
 use Rattle.card.specs.Table.{characters, character_of, code_of, run_code}
-use Rattle.card.specs.Text.{text_codes, all_coded}
+use Rattle.card.specs.Text.{text_codes, codes_in, all_coded}
 use Rattle.card.proofs.Blanks.{trim_blanks}
-use Rattle.card.proofs.Codes.{coded, some_codes}
-use Rattle.card.proofs.Parts.{ahead}
+use Rattle.card.proofs.Codes.{coded, some_codes, some_mapped}
 use Rattle.card.proofs.Rule.{run_code_found}
-use Rattle.scan.specs.Symbols.{is_letter, is_mark, all_marks, any_letter, is_symbol, ten_of, name_of}
-
-pub marks_at : (xs : List ℕ) (i : ℕ) → i < length xs → all_marks (drop i xs) ≡ (is_mark (get_or xs i 0) && all_marks (drop (i + 1) xs))
-marks_at xs i h = at_drop_more all_marks xs i 0 h
-
-pub letter_at : (xs : List ℕ) (i : ℕ) → i < length xs → any_letter (drop i xs) ≡ (is_letter (get_or xs i 0) || any_letter (drop (i + 1) xs))
-letter_at xs i h = at_drop_more any_letter xs i 0 h
+use Rattle.scan.specs.Symbols.{is_mark, all_marks, any_letter, is_symbol, ten_of, name_of}
 
 -- a letter or a digit has a code, and is no blank
 mark_coded : (b : ℕ) → is_mark b ≡ true → is_some (code_of b) ≡ true
@@ -52,27 +45,11 @@ symbol_short bs h = leb-true (length bs) 10 (and_parts (leb (length bs) 10) (all
 pub symbol_coded : (bs : List ℕ) → is_symbol bs ≡ true → is_some (text_codes bs) ≡ true
 symbol_coded bs h = some_codes bs ∙ marks_coded bs (symbol_marks bs h)
 
--- the zeros after the codes that are written
-zeros_less : (cs : List ℕ) (i x n : ℕ) → drop i cs ≡ replicate n 0 → drop (i + 1) (set cs i x) ≡ replicate (n - 1) 0
-zeros_less cs i x n e = drop-set-lt (i + 1) cs i x (omega arith) ∙ sym (drop-drop 1 i cs) ∙ ap (drop 1) e ∙ drop-replicate 1 n 0
-
-pub zeros_more : (cs : List ℕ) (i x : ℕ) → drop i cs ≡ replicate (10 - i) 0 → drop (i + 1) (set cs i x) ≡ replicate (10 - (i + 1)) 0
-zeros_more cs i x e =
-    let n : 10 - i - 1 ≡ 10 - (i + 1) = omega arith in
-    zeros_less cs i x (10 - i) e ∙ ap (λ (k : ℕ). replicate k 0) n
-
 -- a zero is a blank
 zero_blanks : (n : ℕ) → map character_of (replicate n 0) ≡ replicate n 32
 unfolding characters
 zero_blanks zero = refl
 zero_blanks (suc n) = ap (λ (l : List ℕ). 32 ∷ l) (zero_blanks n)
-
--- the ten codes that were written
-pub named : (bs cs : List ℕ) (i : ℕ) → i ≡ length bs → drop i cs ≡ replicate (10 - i) 0 → ahead (take i cs) (text_codes (drop i bs)) ≡ text_codes bs → Some cs ≡ option_map ten_of (text_codes bs)
-named bs cs i n z e =
-    let f : text_codes bs ≡ Some (take i cs) = sym e ∙ ap (ahead (take i cs)) (at_drop_all text_codes bs i (omega arith)) ∙ ap Some (append-nil (take i cs)) in
-    let k = coded bs (take i cs) f in
-    ap Some (sym (take-append-drop i cs) ∙ ap (λ (l : List ℕ). take i cs ++ l) (z ∙ ap (λ (j : ℕ). replicate (10 - j) 0) (n ∙ sym k.long))) ∙ sym (ap (option_map ten_of) f)
 
 -- the characters of ten codes are the text and blanks
 ten_text : (bs cs : List ℕ) → map character_of cs ≡ bs → map character_of (ten_of cs) ≡ bs ++ replicate (10 - length cs) 32
@@ -95,5 +72,20 @@ name_back bs cs e = at (is_symbol bs) refl (text_codes bs) refl e
 pub name_alone : (bs cs ds : List ℕ) → name_of bs ≡ Some cs → name_of ds ≡ Some cs → ds ≡ bs
 name_alone bs cs ds e f = sym (name_back ds cs f) ∙ name_back bs cs e
 
-pub symbol_name : (bs cs : List ℕ) → is_symbol bs ≡ true → Some cs ≡ option_map ten_of (text_codes bs) → name_of bs ≡ Some cs
-symbol_name bs cs h e = ap (λ (t : Bool). cond t (option_map ten_of (text_codes bs)) None) h ∙ sym e
+-- the codes of a symbol's characters are its name, and there are some
+pub symbol_name : (bs : List ℕ) → is_symbol bs ≡ true → codes_in 10 bs ≡ name_of bs
+symbol_name bs h =
+    let o = option_map ten_of (text_codes bs) in
+    cond-true (leb (length bs) 10) o None (le-leb (length bs) 10 (symbol_short bs h)) ∙ sym (cond-true (is_symbol bs) o None h)
+
+pub symbol_named : (bs : List ℕ) → is_symbol bs ≡ true → is_some (name_of bs) ≡ true
+symbol_named bs h = ap is_some (cond-true (is_symbol bs) (option_map ten_of (text_codes bs)) None h) ∙ some_mapped ten_of (text_codes bs) ∙ symbol_coded bs h
+
+-- what a name's codes are said to give
+pub name_gives : (bs : List ℕ) (o : Option (List ℕ)) → o ≡ name_of bs → IfSome o (λ cs. trimmed (map character_of cs) ≡ bs)
+name_gives bs None e = tt
+name_gives bs (Some cs) e = name_back bs cs (sym e)
+
+pub name_only : (bs : List ℕ) (o : Option (List ℕ)) → o ≡ name_of bs → IfSome o (λ cs. (ds : List ℕ) → name_of ds ≡ Some cs → ds ≡ bs)
+name_only bs None e = tt
+name_only bs (Some cs) e = λ ds f. name_alone bs cs ds (sym e) f

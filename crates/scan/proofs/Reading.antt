@@ -1,5 +1,5 @@
 -- Terms read one after the other: the text gets shorter, and the bound on their number never matters.
-use Rattle.std.proofs.Common.{◌≡◌, ℕ, zero, suc, ◌<◌, ◌≤◌, Bool, true, false, cond, eqb, List, [], ◌∷◌, length, take, drop, is_some, IfSome, Some, None, Option, sym, refl, ap, ◌∙◌, subst, arith, length-drop, Bor, MatchOption}
+use Rattle.std.proofs.Common.{◌≡◌, ℕ, zero, suc, ◌<◌, ◌≤◌, Bool, true, false, cond, eqb, List, [], ◌∷◌, length, take, drop, is_some, Some, None, Option, sym, refl, ap, ◌∙◌, subst, arith, length-drop, Bor, MatchOption}
 use Rattle.std.specs.Option.{option_map}
 use Rattle.std.proofs.lemmas.List.{nil_from_length}
 use Rattle.card.specs.Text.{both}
@@ -92,14 +92,18 @@ more_end bs h = ap more_of (nil_from_length bs h)
 pub read : (terms : Option (List Term)) (bs : List ℕ) (t : Term) (cs : List ℕ) → length cs < length bs → terms ≡ both (Some t) (more_of cs) → Read terms bs t cs
 read terms bs t cs h e = record { shorter = h; terms_are = e; readable = ap is_some e ∙ some_both (Some t) (more_of cs) }
 
-module _ (bs : List ℕ) where
-  abbrev Seen : Option (Operator × Bor (List ℕ)) → Type 0
-  Seen r = option_map (λ p. (p.0, p.1.now)) r ≡ operator_of bs
+-- the terms of a text that begins with an operator are those of what follows it
+pub further_read : (bs : List ℕ) (o : Operator) (cs : List ℕ) (r : Option (Term × Bor (List ℕ))) → Some (o, cs) ≡ operator_of bs
+    → MatchOption r (on_term more_of (with_atom o (atom_of cs)) ≡ None) (λ p. Read (on_term more_of (with_atom o (atom_of cs))) cs p.0 p.1.now)
+    → MatchOption r (0 < length bs → more_of bs ≡ None) (λ p. Read (more_of bs) bs p.0 p.1.now)
+further_read bs o cs r e = at r
+  where
+    shorter : length cs < length bs
+    shorter = subst (λ (p : Option (Operator × List ℕ)). Under (length bs) p) (sym e) (operator_under bs)
 
-  pub operator_shorter : (r : Option (Operator × Bor (List ℕ))) → Seen r → IfSome r (λ p. length p.1.now < length bs)
-  operator_shorter None e = tt
-  operator_shorter (Some p) e = subst (λ (o : Option (Operator × List ℕ)). Under (length bs) o) (sym e) (operator_under bs)
+    same : more_of bs ≡ on_term more_of (with_atom o (atom_of cs))
+    same = more_step bs (omega (arith, shorter)) ∙ ap (λ (p : Option (Operator × List ℕ)). on_term more_of (on_operator p)) (sym e)
 
-  pub operator_reads : (r : Option (Operator × Bor (List ℕ))) → Seen r → MatchOption r (0 < length bs → more_of bs ≡ None) (λ p. more_of bs ≡ on_term more_of (with_atom p.0 (atom_of p.1.now)))
-  operator_reads None e = λ h. more_step bs h ∙ ap (λ (o : Option (Operator × List ℕ)). on_term more_of (on_operator o)) (sym e)
-  operator_reads (Some p) e = more_step bs (omega (arith, operator_shorter (Some p) e)) ∙ ap (λ (o : Option (Operator × List ℕ)). on_term more_of (on_operator o)) (sym e)
+    at : (r : Option (Term × Bor (List ℕ))) → MatchOption r (on_term more_of (with_atom o (atom_of cs)) ≡ None) (λ p. Read (on_term more_of (with_atom o (atom_of cs))) cs p.0 p.1.now) → MatchOption r (0 < length bs → more_of bs ≡ None) (λ p. Read (more_of bs) bs p.0 p.1.now)
+    at None h = λ _. same ∙ h
+    at (Some p) h = read (more_of bs) bs p.0 p.1.now (omega (arith, shorter)) (same ∙ h.terms_are)

@@ -11,12 +11,12 @@ pub(crate) fn operator(text: &[u8]) -> Option<(Operator, &[u8])>
     ensures { option_map (λ p. (p.0, p.1.now)) result ≡ operator_of text.now }
 {
     match text {
-        [b'+', ..] => Some((Operator::Plus, after(text, 1))),
-        [b'-', ..] => Some((Operator::Minus, after(text, 1))),
-        [b'*', ..] => Some((Operator::Times, after(text, 1))),
-        [b'/', b'/', ..] => Some((Operator::Fraction, after(text, 2))),
-        [b'/', ..] => Some((Operator::Divide, after(text, 1))),
-        [b':', ..] => Some((Operator::Colon, after(text, 1))),
+        [b'+', rest @ ..] => Some((Operator::Plus, rest)),
+        [b'-', rest @ ..] => Some((Operator::Minus, rest)),
+        [b'*', rest @ ..] => Some((Operator::Times, rest)),
+        [b'/', b'/', rest @ ..] => Some((Operator::Fraction, rest)),
+        [b'/', rest @ ..] => Some((Operator::Divide, rest)),
+        [b':', rest @ ..] => Some((Operator::Colon, rest)),
         _ => None,
     }
 }
@@ -28,8 +28,8 @@ pub(crate) fn leading_sign(text: &[u8]) -> (Operator, &[u8])
     ensures bound { length result.1.now ≤ length text.now }
 {
     match text {
-        [b'+', ..] => (Operator::Plus, after(text, 1)),
-        [b'-', ..] => (Operator::Minus, after(text, 1)),
+        [b'+', rest @ ..] => (Operator::Plus, rest),
+        [b'-', rest @ ..] => (Operator::Minus, rest),
         _ => (Operator::Plus, text),
     }
 }
@@ -39,7 +39,7 @@ pub(crate) fn atom(text: &[u8]) -> Option<(Atom, &[u8])>
     ensures { option_map (λ p. (p.0, p.1.now)) result ≡ atom_of text.now }
 {
     match text {
-        [b'*', ..] => Some((Atom::Here, after(text, 1))),
+        [b'*', rest @ ..] => Some((Atom::Here, rest)),
         [_, ..] => front_atom(text),
         [] => None,
     }
@@ -58,10 +58,9 @@ fn front_atom(text: &[u8]) -> Option<(Atom, &[u8])>
 fn word(text: &[u8]) -> Option<Atom>
     ensures { result ≡ word_of text.now }
 {
-    match number(text) {
-        Some(n) => Some(Atom::Number(n)),
-        None => Some(Atom::Symbol(name_codes(text)?)),
-    }
+    number(text)
+        .map(Atom::Number)
+        .or_else(|| name_codes(text).map(Atom::Symbol))
 }
 
 // The number of 1 to 10 digits.
@@ -86,10 +85,5 @@ fn run(text: &[u8]) -> usize
     ensures value { result ≡ run_of text.now }
     ensures bound { result ≤ length text.now }
 {
-    for (i, b) in text.iter().enumerate() {
-        if !is_mark(*b) {
-            return i;
-        }
-    }
-    text.len()
+    text.iter().position(|b| !is_mark(*b)).unwrap_or(text.len())
 }

@@ -1,8 +1,10 @@
-ghost use Rattle.std.specs.Prelude.{◌≡◌, ◌<◌};
+ghost use Rattle.std.specs.Prelude.{◌≡◌, ◌<◌, ◌≤◌, ◌+◌, map};
+ghost use Rattle.std.specs.List.{range_with_len};
 ghost use Rattle.scan.specs.Columns.{column_at, is_remark, loc_of, gap_filled, op_of, alf_of, address_of};
 
 use crate::spans::{after, front};
 use card::{trim, until};
+use std::array;
 
 // Whether a card is a remark: column 1 is an asterisk.
 pub fn is_remark(card: &[u8]) -> bool
@@ -29,25 +31,14 @@ pub fn gap_filled(card: &[u8]) -> bool
 pub fn op_text(card: &[u8]) -> [u8; 4]
     ensures { result ≡ op_of card.now }
 {
-    [
-        column(card, 12),
-        column(card, 13),
-        column(card, 14),
-        column(card, 15),
-    ]
+    columns(card, 12)
 }
 
 // Columns 17 to 21.
 pub fn alf_text(card: &[u8]) -> [u8; 5]
     ensures { result ≡ alf_of card.now }
 {
-    [
-        column(card, 17),
-        column(card, 18),
-        column(card, 19),
-        column(card, 20),
-        column(card, 21),
-    ]
+    columns(card, 17)
 }
 
 // From column 17 up to the first blank.
@@ -58,10 +49,24 @@ pub fn address_text(card: &[u8]) -> &[u8]
     front(text, until(text, b' '))
 }
 
+// N columns from the first on.
+fn columns<const N: usize>(card: &[u8], first: usize) -> [u8; N]
+    requires from_one { 0 < first }
+    requires within { first + N ≤ 80 }
+    ensures { result ≡ map (λ n. column_at n card.now) (range_with_len first N) }
+{
+    array::from_fn(
+        |i| -> u8
+            requires { (0 < first) × (first + i ≤ 80) }
+            ensures { result ≡ column_at (first + i) card.entry.now }
+        { column(card, first + i) },
+    )
+}
+
 // What a column holds, counted from 1; past the card's end it is blank.
 fn column(card: &[u8], n: usize) -> u8
     requires { 0 < n }
     ensures { result ≡ column_at n card.now }
 {
-    if n <= card.len() { card[n - 1] } else { b' ' }
+    card.get(n - 1).copied().unwrap_or(b' ')
 }

@@ -16,12 +16,13 @@ pub fn first_term(text: &[u8]) -> Option<(Term, &[u8])>
 }
 
 // A further term, an operator and an atom, and the text of the others.
+#[tactic(auto, using(crate::proofs::Reading::enough))]
 pub fn next_term(text: &[u8]) -> Option<(Term, &[u8])>
     ensures next { option_map (λ p. (p.0, p.1.now)) result ≡ next_of text.now }
     ensures terms { MatchOption result (0 < length text.now → more_of text.now ≡ None) (λ p. Read (more_of text.now) text.now p.0 p.1.now) }
     ensures enough { Enough }
 {
-    let (op, rest) = next_operator(text)?;
+    let (op, rest) = operator(text)?;
     term(op, rest)
 }
 
@@ -29,20 +30,7 @@ pub fn next_term(text: &[u8]) -> Option<(Term, &[u8])>
 pub fn is_expression(text: &[u8]) -> bool
     ensures { result ≡ is_some (terms_of text.now) }
 {
-    match first_term(text) {
-        Some((_, rest)) => are_terms(rest),
-        None => false,
-    }
-}
-
-// The operator at the front of a text, and what follows it.
-fn next_operator(text: &[u8]) -> Option<(Operator, &[u8])>
-    ensures value { option_map (λ p. (p.0, p.1.now)) result ≡ operator_of text.now }
-    ensures terms { MatchOption result (0 < length text.now → more_of text.now ≡ None) (λ p. more_of text.now ≡ on_term more_of (with_atom p.0 (atom_of p.1.now))) }
-    ensures shorter { IfSome result (λ p. length p.1.now < length text.now) }
-    ensures enough { Enough }
-{
-    operator(text)
+    first_term(text).is_some_and(|(_, rest)| are_terms(rest))
 }
 
 // An operator with the atom after it, and what follows the atom.
@@ -60,10 +48,10 @@ fn are_terms(text: &[u8]) -> bool
 {
     let mut rest = text;
     while !rest.is_empty() {
-        match next_term(rest) {
-            Some((_, next)) => rest = next,
-            None => return false,
-        }
+        let Some((_, next)) = next_term(rest) else {
+            return false;
+        };
+        rest = next;
     }
     true
 }

@@ -27,20 +27,9 @@ pub fn first_piece(text: &[u8]) -> Option<Piece<'_>>
     ensures pieces { MatchOption result (pieces_of text.now ≡ None) (λ p. pieces_of text.now ≡ both (Some (p.value.now, option_map (λ x. x.now) p.field)) (later_of (option_map (λ x. x.now) p.rest))) }
     ensures shorter { IfSome result (λ p. IfSome p.rest (λ bs. length bs.now < length text.now)) }
 {
-    let (piece, rest) = cut_piece(text);
+    let (piece, rest) = at_comma(text);
     let (value, field) = at_bracket(piece)?;
     Some(Piece { value, field, rest })
-}
-
-// The text of the first piece, and that of the others, if there are any.
-fn cut_piece(text: &[u8]) -> (&[u8], Option<&[u8]>)
-    ensures head { result.0.now ≡ before 44 text.now }
-    ensures rest { option_map (λ x. x.now) result.1 ≡ tail_of (onward 44 text.now) }
-    ensures back { result.0.now ++ comma_text (option_map (λ x. x.now) result.1) ≡ text.now }
-    ensures pieces { pieces_of text.now ≡ both (bracketed result.0.now) (later_of (option_map (λ x. x.now) result.1)) }
-    ensures shorter { IfSome result.1 (λ bs. length bs.now < length text.now) }
-{
-    at_comma(text)
 }
 
 // What stands before the first comma, and what follows it, if there is one.
@@ -48,23 +37,19 @@ fn at_comma(text: &[u8]) -> (&[u8], Option<&[u8]>)
     ensures head { result.0.now ≡ before 44 text.now }
     ensures rest { option_map (λ x. x.now) result.1 ≡ tail_of (onward 44 text.now) }
     ensures back { result.0.now ++ comma_text (option_map (λ x. x.now) result.1) ≡ text.now }
+    ensures pieces { pieces_of text.now ≡ both (bracketed result.0.now) (later_of (option_map (λ x. x.now) result.1)) }
+    ensures shorter { IfSome result.1 (λ bs. length bs.now < length text.now) }
 {
     let n = until(text, b',');
     (front(text, n), tail(after(text, n)))
 }
 
 // What stands before the first opening bracket, and what the brackets hold, if there are any.
+#[tactic(auto, using(crate::proofs::Written::again))]
 fn at_bracket(text: &[u8]) -> Option<(&[u8], Option<&[u8]>)>
     ensures value { option_map (λ p. (p.0.now, option_map (λ x. x.now) p.1)) result ≡ bracketed text.now }
     ensures back { IfSome result (λ p. p.0.now ++ bracket_text (option_map (λ x. x.now) p.1) ≡ text.now) }
     ensures again { Again }
-{
-    cut_field(text)
-}
-
-// The same, found by the place of the bracket.
-fn cut_field(text: &[u8]) -> Option<(&[u8], Option<&[u8]>)>
-    ensures { option_map (λ p. (p.0.now, option_map (λ x. x.now) p.1)) result ≡ bracketed text.now }
 {
     let n = until(text, b'(');
     let field = field(after(text, n))?;
@@ -75,19 +60,18 @@ fn cut_field(text: &[u8]) -> Option<(&[u8], Option<&[u8]>)>
 fn tail(text: &[u8]) -> Option<&[u8]>
     ensures { option_map (λ x. x.now) result ≡ tail_of text.now }
 {
-    match text {
-        [] => None,
-        [_, ..] => Some(after(text, 1)),
-    }
+    text.split_first().map(|(_, rest)| rest)
 }
 
-// Of a text that is empty or begins with an opening bracket: what the brackets hold.
+// Of a text that is empty or begins with an opening bracket: what the brackets hold. The outer
+// none says that the brackets do not fit, and the inner one that there are none. It is no enum of
+// its own: by two options `?` hands on the one, and the other stands in `Parts` and `Piece`.
 fn field(text: &[u8]) -> Option<Option<&[u8]>>
     ensures { option_map (λ f. option_map (λ x. x.now) f) result ≡ field_of text.now }
 {
-    match tail(text) {
-        None => Some(None),
-        Some(rest) => Some(Some(closed(rest)?)),
+    match text {
+        [] => Some(None),
+        [_, rest @ ..] => closed(rest).map(Some),
     }
 }
 
@@ -96,8 +80,7 @@ fn closed(text: &[u8]) -> Option<&[u8]>
     ensures { option_map (λ x. x.now) result ≡ closed_of text.now }
 {
     match text {
-        [.., b')'] => Some(front(text, text.len() - 1)),
-        [.., _] => None,
-        [] => None,
+        [held @ .., b')'] => Some(held),
+        _ => None,
     }
 }

@@ -4,12 +4,12 @@ ghost use Rattle.std.specs.Prelude.{◌≡◌, take, drop};
 pub(crate) fn front(text: &[u8], n: usize) -> &[u8]
     ensures { result.now ≡ take n text.now }
 {
-    if n < text.len() { &text[0..n] } else { text }
+    &text[..n.min(text.len())]
 }
 
 // What follows the first n bytes.
 pub(crate) fn after(text: &[u8], n: usize) -> &[u8]
     ensures { result.now ≡ drop n text.now }
 {
-    if n < text.len() { &text[n..] } else { &[] }
+    text.get(n..).unwrap_or(&[])
 }

@@ -1,11 +1,9 @@
-ghost use Rattle.std.specs.Prelude.{◌≡◌, ℕ, true, List, map, is_some, IfSome, Some};
-ghost use Rattle.std.specs.Option.{option_map};
+ghost use Rattle.std.specs.Prelude.{◌≡◌, ℕ, List, map, is_some, IfSome, Some};
 ghost use Rattle.card.specs.Lines.{trimmed};
 ghost use Rattle.card.specs.Table.{character_of};
-ghost use Rattle.card.specs.Text.{text_codes};
-ghost use Rattle.scan.specs.Symbols.{is_letter, is_digit, is_mark, all_marks, any_letter, is_symbol, ten_of, name_of};
+ghost use Rattle.scan.specs.Symbols.{is_letter, is_digit, is_mark, all_marks, any_letter, is_symbol, name_of};
 
-use card::code;
+use card::codes_of;
 
 // Whether a text is a symbol: 1 to 10 letters and digits, one a letter at least.
 pub fn is_symbol(text: &[u8]) -> bool
@@ -53,37 +51,12 @@ pub(crate) fn is_mark(b: u8) -> bool
 fn all_marks(text: &[u8]) -> bool
     ensures { result ≡ all_marks text.now }
 {
-    for b in text {
-        if !is_mark(*b) {
-            return false;
-        }
-    }
-    true
+    text.iter().all(|b| is_mark(*b))
 }
 
 // Whether some byte is a letter.
 fn any_letter(text: &[u8]) -> bool
     ensures { result ≡ any_letter text.now }
 {
-    for b in text {
-        if is_letter(*b) {
-            return true;
-        }
-    }
-    false
-}
-
-// The codes of a symbol's characters, and zeros after them.
-fn codes_of(text: &[u8]) -> Option<[u8; 10]>
-    requires { is_symbol text.now ≡ true }
-    ensures codes { result ≡ option_map ten_of (text_codes text.now) }
-    ensures given { is_some result ≡ true }
-    ensures back { IfSome result (λ cs. trimmed (map character_of cs) ≡ text.now) }
-    ensures alone { IfSome result (λ cs. (bs : List ℕ) → name_of bs ≡ Some cs → bs ≡ text.now) }
-{
-    let mut codes = [0; 10];
-    for (i, b) in text.iter().enumerate() {
-        codes[i] = code(*b)?;
-    }
-    Some(codes)
+    text.iter().any(|b| is_letter(*b))
 }

@@ -1,5 +1,5 @@
 // What joins an atom to what stands before it: + - * / // and the colon.
-#[derive(Clone, Copy)]
+#[derive(Clone, Copy, PartialEq, Eq, Debug)]
 pub enum Operator {
     Plus,
     Minus,
@@ -10,7 +10,7 @@ pub enum Operator {
 }
 
 // A number, the ten codes of a symbol, or the asterisk that stands for the location.
-#[derive(Clone, Copy)]
+#[derive(Clone, Copy, PartialEq, Eq, Debug)]
 pub enum Atom {
     Number(u64),
     Symbol([u8; 10]),
@@ -18,7 +18,7 @@ pub enum Atom {
 }
 
 // An atom with its operator.
-#[derive(Clone, Copy)]
+#[derive(Clone, Copy, PartialEq, Eq, Debug)]
 pub struct Term {
     pub op: Operator,
     pub atom: Atom,

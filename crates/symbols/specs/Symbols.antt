@@ -3,7 +3,6 @@ use Rattle.std.specs.Prelude.{List, Some, None, Option}
 use Rattle.symbols.specs.declared.meaning.Meaning.{Meaning}
 use Rattle.symbols.specs.declared.meaning.Meaning.TheVariants.{Defined, Awaited}
 use Rattle.symbols.specs.declared.symbols.Symbols.{Symbols}
-use Rattle.table.specs.Items.{items}
 use Rattle.table.specs.Keys.{name_same}
 use Rattle.table.specs.Pairs.{lookup}
 use Rattle.table.specs.declared.name.Name.{Name}
@@ -11,7 +10,7 @@ use Rattle.word.specs.declared.word.Word.{Word}
 
 -- the names and their meanings, first to last
 abbrev pub entries : Symbols → List (Name × Meaning)
-entries s = items s.table
+entries s = s.table
 
 -- what a name means, if it has appeared
 abbrev pub meaning_of : List (Name × Meaning) → Name → Option Meaning

@@ -1,4 +1,4 @@
-ghost use Rattle.std.specs.Prelude.{◌≡◌, [], length, MatchResult};
+ghost use Rattle.std.specs.Prelude.{◌≡◌, ◌<◌, ◌^◌, [], length, OnOk, OnErr};
 ghost use Rattle.symbols.specs.Symbols.{entries, meaning_of, word_in, known_as};
 ghost use Rattle.table.specs.Keys.{name_before, name_same};
 ghost use Rattle.table.specs.Pairs.{Inserts};
@@ -31,11 +31,12 @@ impl Symbols {
         }
     }
 
-    // How many different names there are.
+    // How many different names there are; memory has room for no more than the bound.
     pub fn len(&self) -> usize
-        ensures { result ≡ length (entries self.now) }
+        ensures count { result ≡ length (entries self.now) }
+        ensures bound { result < 2 ^ 63 }
     {
-        self.table.len()
+        self.entries().len()
     }
 
     // The names with their meanings, in the order of the names.
@@ -56,15 +57,13 @@ impl Symbols {
     pub fn word(&self, name: Name) -> Option<Word>
         ensures { result ≡ known_as (entries self.now) name }
     {
-        match self.meaning(name) {
-            Some(meaning) => meaning.word(),
-            None => None,
-        }
+        self.meaning(name).and_then(Meaning::word)
     }
 
     // The name has the meaning from now on; want of memory leaves the symbols as they were.
     pub fn give(&mut self, name: Name, meaning: Meaning) -> Result<(), AllocError>
-        ensures { MatchResult result (λ _. Inserts name_before name_same (entries self.old) name meaning (entries self.new)) (λ _. entries self.new ≡ entries self.old) }
+        ensures ok { OnOk result (Inserts name_before name_same (entries self.old) name meaning (entries self.new)) }
+        ensures err { OnErr result (entries self.new ≡ entries self.old) }
     {
         self.table.insert(name, meaning)
     }

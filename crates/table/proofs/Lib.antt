@@ -1,3 +1,2 @@
-pub mod Lex
 pub mod Ordered
 pub mod Orders

@@ -1,7 +1,18 @@
--- What an order on keys is: three tests, and their laws.
+-- What a table takes of the order of its keys.
 use Rattle.std.specs.Prelude.{◌≡◌, Bool, true, false}
+use Rattle.std.specs.Cmp.{IsTotalOrder}
+use Rattle.std.specs.Ordering.{is_lt, eq_by_cmp}
 use Rattle.std.specs.declared.cmp.Ordering.TheVariants.{Less, Equal, Greater}
 use Rattle.std.specs.declared.cmp.Ordering.{Ordering}
+
+-- the first key comes before the second
+abbrev pub before_by : {K : Type 0} → (K → K → Ordering) → K → K → Bool
+before_by cmp a b = is_lt (cmp a b)
+
+-- an order on keys, and the test of the keys that it does not tell apart
+pub record Order {K : Type 0} (cmp : K → K → Ordering) (same : K → K → Bool) : Type 0 where
+  pub total : IsTotalOrder cmp
+  pub ties : (a b : K) → same a b ≡ eq_by_cmp cmp a b
 
 -- of three tests just one holds
 abbrev pub JustOne : Bool → Bool → Bool → Type 0
@@ -18,10 +29,3 @@ abbrev pub Tells : Ordering → Bool → Bool → Bool → Type 0
 Tells Less b s a = b ≡ true
 Tells Equal b s a = s ≡ true
 Tells Greater b s a = a ≡ true
-
--- the laws of an order: just one test holds, after is before turned round, and before and same carry on
-pub record Order {K : Type 0} (before same after : K → K → Bool) : Type 0 where
-  pub one : (a b : K) → JustOne (before a b) (same a b) (after a b)
-  pub turned : (a b : K) → after a b ≡ before b a
-  pub on : (a b c : K) → before a b ≡ true → before b c ≡ true → before a c ≡ true
-  pub stays : (a b c : K) → same a b ≡ true → same b c ≡ true → same a c ≡ true

@@ -1,5 +1,5 @@
 -- Lists of pairs of a key and a value: look-up, insertion, and what it is for the keys to stand in order.
-use Rattle.std.specs.Prelude.{◌≡◌, ℕ, ◌+◌, ◌<◌, ◌≤◌, Bool, true, false, cond, ◌&&◌, List, [], ◌∷◌, length, is_some, Some, None, Ok, Err, Option, Result, slice_index_or, slice_set}
+use Rattle.std.specs.Prelude.{◌≡◌, ℕ, ◌+◌, ◌<◌, ◌≤◌, Bool, true, false, cond, ◌&&◌, List, [], ◌∷◌, length, is_some, Some, None, Option, slice_index_or, slice_set}
 use Rattle.std.specs.List.{insert}
 
 -- the value at a key
@@ -16,11 +16,6 @@ put before same (p ∷ ps) k v = cond (before p.0 k) (p ∷ put before same ps k
 abbrev pub all_after : {K V : Type 0} → (K → K → Bool) → K → List (K × V) → Bool
 all_after before k [] = true
 all_after before k (p ∷ ps) = before k p.0 && all_after before k ps
-
--- every key of the list comes before k
-abbrev pub all_before : {K V : Type 0} → (K → K → Bool) → K → List (K × V) → Bool
-all_before before k [] = true
-all_before before k (p ∷ ps) = before p.0 k && all_before before k ps
 
 -- the keys stand in order, as a test
 abbrev pub sorted : {K V : Type 0} → (K → K → Bool) → List (K × V) → Bool
@@ -47,6 +42,7 @@ pub record Inserts {K V : Type 0} (before same : K → K → Bool) (xs : List (K
 
 -- the pair at a key stands at i
 pub record Holds {K V : Type 0} (before same : K → K → Bool) (xs : List (K × V)) (k : K) (i : ℕ) : Type 0 where
+  pub within : i < length xs
   pub found : (d : K × V) → same (slice_index_or xs i d).0 k ≡ true
   pub there : is_some (lookup same xs k) ≡ true
   pub reads : (d : K × V) → lookup same xs k ≡ Some (slice_index_or xs i d).1
@@ -54,14 +50,10 @@ pub record Holds {K V : Type 0} (before same : K → K → Bool) (xs : List (K �
 
 -- no pair is at a key, whose place would be i
 pub record Lacks {K V : Type 0} (before same : K → K → Bool) (xs : List (K × V)) (k : K) (i : ℕ) : Type 0 where
+  pub within : i ≤ length xs
   pub apart : (j : ℕ) (d : K × V) → j < length xs → same (slice_index_or xs j d).0 k ≡ false
   pub absent : lookup same xs k ≡ None
   pub stored : (v : V) → Inserts before same xs k v (insert xs i (k, v))
-
--- where a key stands (Ok) or would stand (Err), if the list is in order
-abbrev pub Searched : {K V : Type 0} → (K → K → Bool) → (K → K → Bool) → List (K × V) → K → Result ℕ ℕ → Type 0
-Searched before same xs k (Ok i) = (i < length xs) × (sorted before xs ≡ true → Holds before same xs k i)
-Searched before same xs k (Err i) = (i ≤ length xs) × (sorted before xs ≡ true → Lacks before same xs k i)
 
 -- the place of a key, or that no place has it
 abbrev pub Finds : {K V : Type 0} → (K → K → Bool) → List (K × V) → K → Option ℕ → Type 0

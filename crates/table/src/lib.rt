@@ -1,14 +1,10 @@
-// Tables kept in the order of their keys, for any kind of key whose order keeps the laws.
+// Tables kept in the order of their keys, for any kind of key that has a total order.
 #![tactic(auto)]
 
-mod key;
 mod location;
-mod locations;
 mod name;
-mod names;
 mod table;
 
-pub use key::Key;
 pub use location::Location;
 pub use name::Name;
 pub use table::Table;

@@ -1,3 +1,4 @@
 // A location of memory, as a key.
-#[derive(Clone, Copy, PartialEq, Eq)]
+// Locations go by their numbers.
+#[derive(Clone, Copy, PartialEq, Eq, PartialOrd, Ord, Debug)]
 pub struct Location(pub u16);

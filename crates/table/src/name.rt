@@ -1,5 +1,6 @@
 // A symbol: its characters by their codes, padded with 0.
-#[derive(Clone, Copy)]
+// Names go by their codes, like words in a dictionary.
+#[derive(Clone, Copy, PartialEq, Eq, PartialOrd, Ord, Debug)]
 pub struct Name {
     pub codes: [u8; 10],
 }

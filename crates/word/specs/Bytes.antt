@@ -1,5 +1,6 @@
 -- Bytes of 0 to 63, and the numbers that they write.
-use Rattle.std.specs.Prelude.{ℕ, zero, suc, ◌+◌, ◌*◌, ◌/◌, ◌%◌, ◌^◌, Bool, true, ◌&&◌, List, [], ◌∷◌, length, nat_lt}
+use Rattle.std.specs.Prelude.{ℕ, zero, suc, ◌+◌, ◌*◌, ◌/◌, ◌%◌, ◌^◌, Bool, List, [], ◌∷◌, length, nat_lt}
+use Rattle.std.specs.List.{list_all}
 
 -- the number that a list of bytes writes, the first byte the highest
 abbrev pub packed : List ℕ → ℕ
@@ -13,5 +14,4 @@ unpacked (suc n) m = (m / 64 ^ n % 64) ∷ unpacked n m
 
 -- each is a byte of 0 to 63
 abbrev pub are_bytes : List ℕ → Bool
-are_bytes [] = true
-are_bytes (b ∷ bs) = nat_lt b 64 && are_bytes bs
+are_bytes bs = list_all (λ b. nat_lt b 64) bs

@@ -1,6 +1,7 @@
 -- Fields: which bytes they name, how they are read and how they are stored.
-use Rattle.std.specs.Prelude.{◌≡◌, ℕ, ◌-◌, ◌/◌, ◌%◌, Bool, cond, ◌&&◌, List, ◌++◌, take, drop, replicate, ◌==◌, nat_le}
+use Rattle.std.specs.Prelude.{◌≡◌, ℕ, ◌-◌, ◌/◌, ◌%◌, Bool, cond, ◌&&◌, List, ◌++◌, take, drop, replicate, ◌==◌, nat_le, true, false, Result, MatchResult}
 use Rattle.word.specs.declared.field.Field.{Field}
+use Rattle.word.specs.declared.field.NoField.{NoField}
 use Rattle.word.specs.declared.sign.Sign.TheVariants.{Plus}
 use Rattle.word.specs.declared.word.Word.{Word}
 use Rattle.word.specs.Word.{word_from, bytes_of}
@@ -8,6 +9,10 @@ use Rattle.word.specs.Word.{word_from, bytes_of}
 -- F = 8 L + R names a field where L ≤ R ≤ 5
 abbrev pub is_field : ℕ → Bool
 is_field f = nat_le (f / 8) (f % 8) && nat_le (f % 8) 5
+
+-- the result is the field of F = 8 L + R, or an error where F names no field
+abbrev pub Decodes : ℕ → Result Field NoField → Type 0
+Decodes f r = MatchResult r (λ field. (is_field f ≡ true) × (field.left ≡ f / 8) × (field.right ≡ f % 8)) (λ _. is_field f ≡ false)
 
 -- how many bytes stand before the field l to r, the sign not counted
 abbrev pub before : ℕ → ℕ

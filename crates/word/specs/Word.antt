@@ -1,11 +1,11 @@
 -- Words as signs and bytes, and as numbers.
-use Rattle.std.specs.Prelude.{ℕ, ◌%◌, ◌^◌, ◌<◌, Bool, cond, ◌&&◌, List, ℤ, pos, ◌-ℤ◌, Some, None, Option, ◌==◌}
+use Rattle.std.specs.Prelude.{ℕ, ◌%◌, ◌^◌, ◌<◌, cond, List, ℤ, pos, ◌-ℤ◌, Some, None, Option}
 use Rattle.std.proofs.Common.{arith}
 use Rattle.word.specs.declared.sign.Sign.{Sign}
 use Rattle.word.specs.declared.sign.Sign.TheVariants.{Plus, Minus}
 use Rattle.word.specs.declared.word.Word.{Word}
 use Rattle.word.specs.Bytes.{packed, unpacked, are_bytes}
-use Rattle.word.specs.Sign.{opposite, like}
+use Rattle.word.specs.Sign.{opposite}
 
 unfoldable pub small_rest : (m : ℕ) → m % 2 ^ 30 < 2 ^ 30
 small_rest m = omega arith
@@ -38,7 +38,3 @@ value w = signed w.sign w.magnitude
 -- the word with its sign turned
 abbrev pub negative : Word → Word
 negative w = word_of (opposite w.sign) w.magnitude
-
--- whether two words are the same: +0 and -0 are not
-abbrev pub same_word : Word → Word → Bool
-same_word a b = (a.magnitude == b.magnitude) && like a.sign b.sign

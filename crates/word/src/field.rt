@@ -8,3 +8,7 @@ pub struct Field {
     ghost ordered: { left ≤ right },
     ghost within: { right ≤ 5 },
 }
+
+// The code names no field.
+#[derive(Clone, Copy, PartialEq, Eq, Debug)]
+pub struct NoField;

@@ -1,38 +1,45 @@
-ghost use Rattle.std.specs.Prelude.{◌≡◌, ◌+◌, ◌*◌, ◌/◌, ◌%◌, true, false, MatchOption};
+ghost use Rattle.std.specs.Prelude.{◌≡◌, ◌+◌, ◌-◌, ◌*◌, true};
 ghost use Rattle.word.specs.Bytes.{packed, unpacked};
-ghost use Rattle.word.specs.Field.{is_field, field_of, stored_in, read_bytes, stored_bytes, Stored};
+ghost use Rattle.word.specs.Field.{before, width, is_field, Decodes, field_of, stored_in, read_bytes, stored_bytes, Stored};
 ghost use Rattle.word.specs.Word.{bytes_of};
 
-use crate::field::Field;
+use crate::field::{Field, NoField};
 use crate::powers::power;
 use crate::sign::Sign;
 use crate::word::Word;
 
-impl Field {
-    // The field of F = 8 L + R; none where it is not so that L ≤ R ≤ 5.
-    pub fn from_code(code: u8) -> Option<Field>
-        ensures { MatchOption result (is_field code ≡ false) (λ f. (is_field code ≡ true) × (f.left ≡ code / 8) × (f.right ≡ code % 8)) }
-    {
+impl TryFrom<u8> for Field {
+    type Error = NoField;
+
+    ghost try_from_gives = { Decodes };
+
+    // The field of F = 8 L + R; an error where it is not so that L ≤ R ≤ 5.
+    fn try_from(code: u8) -> Result<Field, NoField> {
         let left = code / 8;
         let right = code % 8;
         if left <= right && right <= 5 {
-            Some(Field { left, right })
+            Ok(Field { left, right })
         } else {
-            None
+            Err(NoField)
         }
     }
+}
+
+impl From<Field> for u8 {
+    ghost from_gives = { λ field code. code ≡ 8 * field.left + field.right };
 
     // F = 8 L + R.
-    pub fn code(self) -> u8
-        ensures value { result ≡ 8 * self.left + self.right }
+    fn from(field: Field) -> u8
+        ensures value { result ≡ 8 * field.left + field.right }
         ensures field { is_field result ≡ true }
     {
-        8 * self.left + self.right
+        8 * field.left + field.right
     }
 }
 
 impl Word {
     // The field's bytes at the right end, plus unless byte 0 is in the field.
+    #[tactic(auto, using(crate::proofs::Cuts::read_back))]
     pub fn field(self, field: Field) -> Word
         ensures word { result ≡ field_of field self }
         ensures bytes { bytes_of result ≡ read_bytes field.left field.right (bytes_of self) }
@@ -59,14 +66,34 @@ impl Word {
     }
 }
 
+impl Field {
+    // How many bytes stand before the field, the sign not counted.
+    fn before(self) -> u32
+        ensures { result ≡ before self.left }
+    {
+        u32::from(self.left.saturating_sub(1))
+    }
+
+    // How many bytes it has, the sign not counted.
+    fn width(self) -> u32
+        ensures { result ≡ width self.left self.right }
+    {
+        u32::from(self.right) - self.before()
+    }
+
+    // How many bytes stand behind it.
+    fn after(self) -> u32
+        ensures { result ≡ 5 - self.right }
+    {
+        u32::from(5 - self.right)
+    }
+}
+
 // The number of the field's bytes.
 fn cut(word: Word, field: Field) -> u64
-    ensures value { result ≡ packed (read_bytes field.left field.right (bytes_of word)) }
-    ensures bytes { unpacked 5 result ≡ read_bytes field.left field.right (bytes_of word) }
+    ensures { result ≡ packed (read_bytes field.left field.right (bytes_of word)) }
 {
-    let before = field.left.saturating_sub(1);
-    let shifted = u64::from(word.magnitude) / power(u32::from(5 - field.right));
-    shifted % power(u32::from(field.right - before))
+    u64::from(word.magnitude) / power(field.after()) % power(field.width())
 }
 
 // The number of the word's bytes with the register's right end in the field.
@@ -74,10 +101,9 @@ fn splice(word: Word, field: Field, register: Word) -> u64
     ensures value { result ≡ packed (stored_bytes field.left field.right (bytes_of register) (bytes_of word)) }
     ensures bytes { Stored field.left field.right (bytes_of register) (bytes_of word) (unpacked 5 result) }
 {
-    let before = field.left.saturating_sub(1);
-    let high = power(u32::from(5 - before));
-    let span = power(u32::from(field.right - before));
-    let low = power(u32::from(5 - field.right));
+    let high = power(5 - field.before());
+    let span = power(field.width());
+    let low = power(field.after());
     let m = u64::from(word.magnitude);
     m / high * high + u64::from(register.magnitude) % span * low + m % low
 }

@@ -9,3 +9,7 @@ pub struct Index {
     pub magnitude: u16,
     ghost small: { magnitude ≤ 4095 },
 }
+
+// The word's magnitude is beyond 4,095.
+#[derive(Clone, Copy, PartialEq, Eq, Debug)]
+pub struct BeyondIndex;

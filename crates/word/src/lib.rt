@@ -10,8 +10,8 @@ mod sign;
 mod word;
 mod words;
 
-pub use field::Field;
-pub use index::Index;
+pub use field::{Field, NoField};
+pub use index::{BeyondIndex, Index};
 pub use powers::power;
 pub use sign::Sign;
 pub use word::Word;

@@ -1,9 +1,9 @@
 -- W-values: pieces stored one after the other into a word that began as +0.
 use Rattle.std.specs.Prelude.{ℕ, ◌/◌, ◌%◌, Bool, true, false, cond, ◌&&◌, ◌||◌, List, [], ◌∷◌, is_some, Some, None, Option}
-use Rattle.eval.specs.Eval.{and_then, value_of, undefined_in}
+use Rattle.eval.specs.Eval.{value_of, undefined_in}
 use Rattle.scan.specs.Address.{pieces_of}
 use Rattle.scan.specs.Terms.{terms_of}
-use Rattle.std.specs.Option.{option_map}
+use Rattle.std.specs.Option.{option_map, option_and_then}
 use Rattle.symbols.specs.declared.meaning.Meaning.{Meaning}
 use Rattle.table.specs.declared.name.Name.{Name}
 use Rattle.word.specs.declared.sign.Sign.{Sign}
@@ -23,17 +23,17 @@ bounds_of w = cond (is_plus w.sign && is_field w.magnitude) (Some (w.magnitude /
 -- the bytes that brackets name, all of them and the sign where there are none
 abbrev pub field_bounds : List (Name × Meaning) → ℕ → Option (List ℕ) → Option (ℕ × ℕ)
 field_bounds es here None = Some (0, 5)
-field_bounds es here (Some text) = and_then bounds_of (value_of es here text)
+field_bounds es here (Some text) = option_and_then bounds_of (value_of es here text)
 
 -- one piece stored into a word
 abbrev pub stored_piece : List (Name × Meaning) → ℕ → Word → List ℕ × Option (List ℕ) → Option Word
 stored_piece es here w p =
-    and_then (λ v. option_map (λ b. stored_at b.0 b.1 v w) (field_bounds es here p.1)) (value_of es here p.0)
+    option_and_then (λ v. option_map (λ b. stored_at b.0 b.1 v w) (field_bounds es here p.1)) (value_of es here p.0)
 
 -- pieces stored one after the other
 abbrev pub stored_all : List (Name × Meaning) → ℕ → List (List ℕ × Option (List ℕ)) → Word → Option Word
 stored_all es here [] w = Some w
-stored_all es here (p ∷ ps) w = and_then (λ u. stored_all es here ps u) (stored_piece es here w p)
+stored_all es here (p ∷ ps) w = option_and_then (λ u. stored_all es here ps u) (stored_piece es here w p)
 
 abbrev pub stored_by : List (Name × Meaning) → ℕ → Word → Option (List (List ℕ × Option (List ℕ))) → Option Word
 stored_by es here w None = None

@@ -1,11 +1,10 @@
-use Rattle.std.proofs.Common.{ℕ, List, [], ◌∷◌, ◌++◌, length, ap, ◌∙◌}
+use Rattle.std.proofs.Common.{ℕ, ◌-◌, List, ◌∷◌, ◌++◌, replicate, ap, ◌∙◌, rules}
 use Rattle.lines.specs.Lines.{four_digits}
-use Rattle.lines.proofs.Ends.{quad}
+use Rattle.lines.proofs.Ends.{numbered}
 use Rattle.lines.proofs.texts.numbered.Goals as goal
 
 pub returns : goal.returns
-unfolding four_digits
-returns c =
-    quad c.four.result _ (ap length c.four.ensures)
-    ∙ ap (λ (l : List ℕ). l ++ (32 ∷ (c.copy_from_slice.new.self ++ (32 ∷ 32 ∷ [])))) c.four.ensures
-    ∙ ap (λ (l : List ℕ). four_digits c.args.location ++ (32 ∷ (l ++ (32 ∷ 32 ∷ [])))) (c.copy_from_slice.ensures.after ∙ c.digits.ensures)
+returns g c =
+    numbered g.row.N c.args.end c.copy_from_slice.new.self c.copy_from_slice-2.new.self (search rules) (search rules)
+    ∙ ap (λ (l : List ℕ). l ++ (32 ∷ (c.copy_from_slice-2.new.self ++ replicate (g.row.N - 21) c.args.end))) (c.copy_from_slice.ensures.after ∙ c.location_text.ensures)
+    ∙ ap (λ (l : List ℕ). four_digits c.args.location ++ (32 ∷ (l ++ replicate (g.row.N - 21) c.args.end))) (c.copy_from_slice-2.ensures.after ∙ c.word_text.ensures)

@@ -4,8 +4,8 @@ use Rattle.mixal.specs.Assembled.{read_from, deck_of}
 use Rattle.mixal.specs.Model.{model_of}
 use Rattle.mixal.proofs.reading.assemble.Given as goal
 
-abbrev pub invariant-loop-card : goal.invariant-loop-card
-invariant-loop-card l = read_from (model_of l.assembly) (cards_of l.rest) ≡ deck_of l.text
+abbrev pub invariant-loop-text : goal.invariant-loop-text
+invariant-loop-text l = read_from (model_of l.assembly) (cards_of l.rest) ≡ deck_of l.text
 
-abbrev pub decreases-loop-card : goal.decreases-loop-card
-decreases-loop-card l = length l.rest
+abbrev pub decreases-loop-text : goal.decreases-loop-text
+decreases-loop-text l = length l.rest

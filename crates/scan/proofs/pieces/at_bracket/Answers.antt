@@ -1,7 +1,6 @@
-use Rattle.scan.proofs.Written.{bracket_back, again}
+use Rattle.std.proofs.Common.{Some, rules}
+use Rattle.scan.proofs.Written.{bracket_back}
 use Rattle.scan.proofs.pieces.at_bracket.Goals as goal
 
-pub returns : goal.returns
-returns c =
-    let e = c.cut_field.ensures in
-    record { value = e; back = bracket_back c.args.text.now c.cut_field.result e; again = again }
+pub returns-clause-back : goal.returns-clause-back
+returns-clause-back c = bracket_back c.args.text.now (Some (c.front.result, c.in_ok-field.field)) (search rules)

@@ -1,23 +1,11 @@
-use Rattle.std.proofs.Common.{arith}
-use Rattle.std.proofs.lemmas.List.{at_drop_all}
-use Rattle.std.proofs.lemmas.Bool.Decides.{nat_tests}
-use Rattle.scan.specs.Symbols.{all_marks}
-use Rattle.scan.proofs.Marks.{marks_at}
+use Rattle.std.proofs.Common.{◌∙◌, ◌&&◌, refl, rules}
+use Rattle.std.specs.List.{list_all}
+use Rattle.std.proofs.lemmas.List.Recursion.{same_from_clauses}
+use Rattle.std.proofs.lemmas.Iterator.{YieldsList-from_slice}
+use Rattle.std.proofs.lemmas.Iterator.Search.{all_from_yields_List}
+use borrow.Author.Tests.{tests}
+use Rattle.scan.specs.Symbols.{is_mark, all_marks}
 use Rattle.scan.proofs.symbols.all_marks.Goals as goal
 
-pub returns-then-not-is_mark : goal.returns-then-not-is_mark
-returns-then-not-is_mark c =
-    let m = marks_at c.args.text.now c.loop-b.b-index c.loop-b-test.true in
-    let d = c.if-not-is_mark.ensures in
-    grind (arith, nat_tests)
-
-pub loop-b-preserved : goal.loop-b-preserved
-loop-b-preserved c =
-    let m = marks_at c.args.text.now c.loop-b.b-index c.loop-b-test.true in
-    let d = c.if-not-is_mark.ensures in
-    grind (arith, nat_tests)
-
 pub returns : goal.returns
-returns c =
-    let m = at_drop_all all_marks c.args.text.now c.loop-b.b-index c.loop-b-test.false in
-    grind (arith, nat_tests)
+returns c = all_from_yields_List is_mark _ _ c.all.result c.all.ensures.ran (YieldsList-from_slice c.args.text.now cc) (λ x b q k. search (rules, tests)) ∙ same_from_clauses (list_all is_mark) all_marks (λ b t. is_mark b && t) refl (λ _ _. refl) (λ _ _. refl) c.args.text.now

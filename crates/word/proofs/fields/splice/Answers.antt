@@ -1,44 +1,31 @@
-use Rattle.std.proofs.Common.{ℕ, ◌^◌, sym, ap, ◌∙◌, subst, arith}
-use Rattle.word.specs.Field.{Stored, stored_bytes}
-use Rattle.word.specs.Bytes.{unpacked}
-use Rattle.word.proofs.Cuts.{Spliced, stored_worked, stored_length, stored_are_bytes, stored_law}
-use Rattle.word.proofs.Bytes.{unpacked_at}
+use Rattle.std.proofs.Common.{◌≡◌, ◌+◌, ◌-◌, ◌*◌, ◌/◌, ◌%◌, ◌^◌, ◌<◌, ap, ◌∙◌, arith}
+use Rattle.word.specs.Bytes.{packed}
+use Rattle.word.specs.Field.{before, width, stored_bytes}
+use Rattle.word.specs.Word.{bytes_of}
+use Rattle.word.proofs.Cuts.{stored_value, stored_small, stored_back}
 use Rattle.word.proofs.fields.splice.Goals as goal
 
--- what every need below rests on
-known : (c : goal.After-from-4) → Spliced c.args.field c.args.register.magnitude c.args.word.magnitude c.from-4.result c.from-m.result c.power-high.result c.power-span.result c.power-low.result
+-- the number that the code works out, in one
+known : (c : goal.After-from) → c.from-m.result / c.power-high.result * c.power-high.result + c.from.result % c.power-span.result * c.power-low.result + c.from-m.result % c.power-low.result ≡ packed (stored_bytes c.args.field.left c.args.field.right (bytes_of c.args.register) (bytes_of c.args.word))
 known c =
-    let w = c.args.field.within in
-    stored_worked c.args.field c.args.register.magnitude c.args.word.magnitude c.from-4.result c.from-m.result c.power-high.result c.power-span.result c.power-low.result
-    c.from-4.ensures c.from-m.ensures
-    (c.power-high.ensures.exact (omega arith) ∙ ap (λ (n : ℕ). 64 ^ n) (omega arith))
-    (c.power-span.ensures.exact (omega arith) ∙ ap (λ (n : ℕ). 64 ^ n) (omega arith))
-    (c.power-low.ensures.exact (omega arith) ∙ ap (λ (n : ℕ). 64 ^ n) c.from-3.ensures)
-    c.args.register.small c.args.word.small
+    let f = c.args.field in
+    let high : c.power-high.result ≡ 64 ^ (5 - before f.left) = c.power-high.ensures.exact (omega arith) ∙ ap (λ n. 64 ^ n) (omega arith) in
+    let span : c.power-span.result ≡ 64 ^ width f.left f.right = c.power-span.ensures.exact (omega arith) ∙ ap (λ n. 64 ^ n) c.width.ensures in
+    let low : c.power-low.result ≡ 64 ^ (5 - f.right) = c.power-low.ensures.exact (omega arith) ∙ ap (λ n. 64 ^ n) c.after.ensures in
+    cc (stored_value f c.args.register.magnitude c.args.word.magnitude c.args.register.small c.args.word.small)
 
-pub nonzero_div-result : goal.nonzero_div-result
-nonzero_div-result c = c.power-high.ensures.positive
-
-pub nonzero_rem-result : goal.nonzero_rem-result
-nonzero_rem-result c = c.power-span.ensures.positive
-
-pub nonzero_rem-result-2 : goal.nonzero_rem-result-2
-nonzero_rem-result-2 c = c.power-low.ensures.positive
+-- and it is below 2^30
+below : (c : goal.After-from) → packed (stored_bytes c.args.field.left c.args.field.right (bytes_of c.args.register) (bytes_of c.args.word)) < 2 ^ 30
+below c = stored_small c.args.field c.args.register.magnitude c.args.word.magnitude
 
 pub overflow_mul-result-2 : goal.overflow_mul-result-2
-overflow_mul-result-2 c = let k = known c in omega arith
+overflow_mul-result-2 c = omega (arith, known c, below c)
 
 pub overflow_add-result : goal.overflow_add-result
-overflow_add-result c = let k = known c in omega arith
+overflow_add-result c = omega (arith, known c, below c)
 
 pub overflow_add-result-2 : goal.overflow_add-result-2
-overflow_add-result-2 c = let k = known c in omega arith
+overflow_add-result-2 c = omega (arith, known c, below c)
 
 pub returns : goal.returns
-returns c =
-    let f = c.args.field in
-    let v = c.args.register.magnitude in
-    let m = c.args.word.magnitude in
-    let w = (known c).value in
-    let e = ap (unpacked 5) w ∙ unpacked_at 5 (stored_bytes f.left f.right (unpacked 5 v) (unpacked 5 m)) (stored_length f v m) (stored_are_bytes f v m) in
-    record { value = w; bytes = subst (Stored f.left f.right (unpacked 5 v) (unpacked 5 m)) (sym e) (stored_law f v m) }
+returns c = record { value = known c; bytes = rw (known c) (stored_back c.args.field c.args.register.magnitude c.args.word.magnitude) }
