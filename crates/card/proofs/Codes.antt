@@ -1,10 +1,11 @@
 -- The codes of a text, there and back.
 use Rattle.std.proofs.Common.{◌≡◌, ℕ, zero, suc, ◌+◌, ◌-◌, ◌<◌, ◌≤◌, Bool, true, false, ◌&&◌, leb, ltb, List, [], ◌∷◌, ◌++◌, map, length, get_or, take, drop, set, replicate, is_some, Some, None, Option, sym, refl, ap, ◌∙◌, arith}
 use Rattle.std.proofs.lemmas.List.{at_drop_more, at_drop_all, append-nil, map-append, drop-drop, drop-replicate, drop-set-lt, take-append-drop}
-use Rattle.std.proofs.lemmas.Bool.{and_from, and_parts, cond-true, le-leb, lt-ltb}
+use Rattle.std.proofs.lemmas.Bool.{and_from, cond-true, le-leb, lt-ltb}
 use Rattle.std.specs.Option.{option_map}
 use Rattle.std.specs.List.{AllByRecursion}
 use Rattle.word.specs.Bytes.{are_bytes}
+use Rattle.word.proofs.Bytes.{bytes_append, bytes_zeros}
 use Rattle.card.specs.Table.{characters, character_of, code_of}
 use Rattle.card.specs.Text.{both, text_codes, filled, codes_in, padded, all_coded}
 use Rattle.card.proofs.Parts.{ahead}
@@ -52,16 +53,12 @@ unfolding characters
 zero_blanks zero = refl
 zero_blanks (suc n) = ap (λ (l : List ℕ). 32 ∷ l) (zero_blanks n)
 
--- zeros are bytes
-zero_bytes : (n : ℕ) → are_bytes (replicate n 0) ≡ true
-zero_bytes zero = refl
-zero_bytes (suc n) = zero_bytes n
-
-bytes_append : (xs ys : List ℕ) → are_bytes xs ≡ true → are_bytes ys ≡ true → are_bytes (xs ++ ys) ≡ true
-bytes_append [] ys h k = k
-bytes_append (x ∷ xs) ys h k =
-    let p = and_parts (ltb x 64) (are_bytes xs) h in
-    and_from (ltb x 64) (are_bytes (xs ++ ys)) p.0 (bytes_append xs ys p.1 k)
+-- the characters of codes with zeros after them are the text and blanks
+pub filled_text : (n : ℕ) (bs cs : List ℕ) → map character_of cs ≡ bs → map character_of (filled n cs) ≡ bs ++ replicate (n - length cs) 32
+filled_text n bs cs e =
+    map-append character_of cs (replicate (n - length cs) 0)
+    ∙ ap (λ (l : List ℕ). l ++ map character_of (replicate (n - length cs) 0)) e
+    ∙ ap (λ (l : List ℕ). bs ++ l) (zero_blanks (n - length cs))
 
 -- what the codes of a text with zeros after them are
 pub record Filled (n : ℕ) (bs cs : List ℕ) : Type 0 where
@@ -77,12 +74,8 @@ written n bs cs i h e z m =
     let g : cs ≡ filled n (take i cs) = sym (take-append-drop i cs) ∙ ap (λ (l : List ℕ). take i cs ++ l) (z ∙ ap (λ (j : ℕ). replicate (n - j) 0) (e ∙ sym k.long)) in
     record {
       value = ap Some g ∙ sym (ap (option_map (filled n)) f) ∙ sym (cond-true (leb (length bs) n) (option_map (filled n) (text_codes bs)) None (le-leb (length bs) n h));
-      bytes = ap are_bytes g ∙ bytes_append (take i cs) (replicate (n - length (take i cs)) 0) k.bytes (zero_bytes (n - length (take i cs)));
-      back =
-          ap (map character_of) g
-          ∙ map-append character_of (take i cs) (replicate (n - length (take i cs)) 0)
-          ∙ ap (λ (l : List ℕ). l ++ map character_of (replicate (n - length (take i cs)) 0)) k.text
-          ∙ ap (λ (l : List ℕ). bs ++ l) (zero_blanks (n - length (take i cs)) ∙ ap (λ (j : ℕ). replicate (n - j) 32) k.long);
+      bytes = ap are_bytes g ∙ bytes_append (take i cs) (replicate (n - length (take i cs)) 0) k.bytes (bytes_zeros (n - length (take i cs)));
+      back = ap (map character_of) g ∙ filled_text n bs (take i cs) k.text ∙ ap (λ (j : ℕ). bs ++ replicate (n - j) 32) k.long;
     }
 
 -- a byte of a short text has no code

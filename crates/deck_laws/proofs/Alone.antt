@@ -1,10 +1,10 @@
 -- The value of an expression that is one symbol.
 use Rattle.std.proofs.Common.{◌≡◌, ℕ, suc, ◌+◌, ◌-◌, ◌^◌, ◌<◌, Bool, true, false, cond, ◌&&◌, ◌||◌, eqb, leb, List, [], ◌∷◌, length, take, drop, Some, None, Option, sym, refl, ap, ◌∙◌, mod-eq_of_lt, arith}
 use Rattle.arith.specs.Sums.{sum_sign, sum_size}
-use Rattle.card.specs.Text.{text_codes}
+use Rattle.card.specs.Text.{text_codes, filled}
 use Rattle.eval.specs.Eval.{as_number, applied_to, value_of, worked_by}
 use Rattle.scan.specs.Atoms.{sign_of, atom_of, front_of, word_of as atom_of_marks, either_of, digits_from, all_digits, run_of}
-use Rattle.scan.specs.Symbols.{is_letter, is_digit, is_mark, all_marks, any_letter, is_symbol, name_of, ten_of}
+use Rattle.scan.specs.Symbols.{is_letter, is_digit, is_mark, all_marks, any_letter, is_symbol, name_of}
 use Rattle.scan.specs.Terms.{with_atom, on_term, more_of, terms_of}
 use Rattle.scan.specs.declared.terms.Atom.{Atom}
 use Rattle.scan.specs.declared.terms.Atom.TheVariants.{Symbol, Here}
@@ -28,7 +28,7 @@ use Rattle.word.specs.declared.word.Word.{Word}
 pub name_symbol : (bs cs : List ℕ) → name_of bs ≡ Some cs → is_symbol bs ≡ true
 name_symbol bs cs e = at (is_symbol bs) e
   where
-    at : (b : Bool) → cond b (option_map ten_of (text_codes bs)) None ≡ Some cs → b ≡ true
+    at : (b : Bool) → cond b (option_map (filled 10) (text_codes bs)) None ≡ Some cs → b ≡ true
     at true f = refl
     at false f = let z : ◌≡◌ {A = ℕ} 0 1 = cc in absurd (omega arith)
 

@@ -18,7 +18,7 @@ use Rattle.scan.specs.Columns.{is_remark, op_of, address_of}
 use Rattle.scan.specs.Symbols.{name_of}
 use Rattle.std.proofs.lemmas.Bool.{both_ways, or_parts, not-false, ne_eqb}
 use Rattle.std.specs.Option.{option_map, option_and_then}
-use Rattle.symbols.specs.Symbols.{meaning_of, word_of_some, known_as}
+use Rattle.symbols.specs.Symbols.{meaning_of, word_in, known_as}
 use Rattle.symbols.specs.declared.meaning.Meaning.{Meaning}
 use Rattle.symbols.specs.declared.meaning.Meaning.TheVariants.{Defined, Awaited}
 use Rattle.table.specs.Keys.{name_before, name_same}
@@ -168,7 +168,7 @@ module _ (t : State) (c : List ℕ) (ds : List (List ℕ)) (a : Assembled) (i : 
       ∙ ap (λ (o : Option Name). meaning_of (named_in t.symbols o) n) (future_now k)
       ∙ at (meaning_of t.symbols n) refl k
     where
-      at : (o : Option Meaning) → meaning_of t.symbols n ≡ o → word_of_some o ≡ None → meaning_of (cond (is_some (meaning_of t.symbols n)) t.symbols (put name_before name_same t.symbols n Awaited)) n ≡ Some Awaited
+      at : (o : Option Meaning) → meaning_of t.symbols n ≡ o → option_and_then word_in o ≡ None → meaning_of (cond (is_some (meaning_of t.symbols n)) t.symbols (put name_before name_same t.symbols n Awaited)) n ≡ Some Awaited
       at None f h = ap (λ (o : Option Meaning). meaning_of (cond (is_some o) t.symbols (put name_before name_same t.symbols n Awaited)) n) f ∙ put_there t.symbols n Awaited
       at (Some (Defined w)) f h = let z : ◌≡◌ {A = ℕ} 0 1 = cc in absurd (omega arith)
       at (Some Awaited) f h = ap (λ (o : Option Meaning). meaning_of (cond (is_some o) t.symbols (put name_before name_same t.symbols n Awaited)) n) f ∙ f

@@ -11,7 +11,8 @@ use Rattle.names.specs.declared.kinds.Operation.{Operation}
 use Rattle.names.specs.declared.kinds.Operation.TheVariants.{Machine, Equ, Orig, Con, Alf, End}
 use Rattle.scan.specs.Columns.{is_remark, op_of, address_of}
 use Rattle.std.proofs.lemmas.Bool.{both_ways, and_parts}
-use Rattle.symbols.specs.Symbols.{meaning_of, word_of_some, known_as}
+use Rattle.std.specs.Option.{option_and_then}
+use Rattle.symbols.specs.Symbols.{meaning_of, word_in, known_as}
 use Rattle.symbols.specs.declared.meaning.Meaning.{Meaning}
 use Rattle.symbols.specs.declared.meaning.Meaning.TheVariants.{Defined, Awaited}
 use Rattle.table.proofs.Ordered.{lookup_put, lookup_other}
@@ -40,7 +41,7 @@ put_elsewhere es m n v h = lookup_other name_order es m n v h
 pub is_defined : (es : Entries) (n : Name) (w : Word) → known_as es n ≡ Some w → meaning_of es n ≡ Some (Defined w)
 is_defined es n w e = at (meaning_of es n) e
   where
-    at : (o : Option Meaning) → word_of_some o ≡ Some w → o ≡ Some (Defined w)
+    at : (o : Option Meaning) → option_and_then word_in o ≡ Some w → o ≡ Some (Defined w)
     at None h = let z : ◌≡◌ {A = ℕ} 0 1 = cc in absurd (omega arith)
     at (Some (Defined v)) h = let q : v ≡ w = cc in ap (λ (u : Word). Some (Defined u)) q
     at (Some Awaited) h = let z : ◌≡◌ {A = ℕ} 0 1 = cc in absurd (omega arith)
@@ -85,7 +86,7 @@ known_on s c n w e h = at (is_remark c) (operation_of (op_of c)) refl
     at : (b : Bool) (o : Option Operation) → is_remark c ≡ b → known_as (cond b (after_remark s c) (after_named s c o)).symbols n ≡ Some w
     at true o r = h
     at false None r = h
-    at false (Some o) r = ap word_of_some (stays s c o n (Defined w) (not_loc s c n w e r h) (is_defined s.symbols n w h))
+    at false (Some o) r = ap (option_and_then word_in) (stays s c o n (Defined w) (not_loc s c n w e r h) (is_defined s.symbols n w h))
 
 -- and while END supplies names
 supplied_one_keeps : (loc : Option Name) (s : State) (q n : Name) (w : Word) → meaning_of s.symbols n ≡ Some (Defined w) → meaning_of (supplied_if loc s q).symbols n ≡ Some (Defined w)
@@ -119,7 +120,7 @@ known_all s (c ∷ cs) a n w e h = at (is_end c) refl (goes_on s c cs a e) (λ q
     at true f g rec =
         let l = not_loc s c n w g.0 (end_not_remark c f) h in
         ap (λ (v : Assembled). known_as v.symbols n) (g.1 f)
-        ∙ ap word_of_some (defined_keeps (at_end s c).symbols (loc_name c) _ n l ∙ supplied_keeps (loc_name c) s.awaited s n w (is_defined s.symbols n w h))
+        ∙ ap (option_and_then word_in) (defined_keeps (at_end s c).symbols (loc_name c) _ n l ∙ supplied_keeps (loc_name c) s.awaited s n w (is_defined s.symbols n w h))
     at false f g rec = rec (g.2 f) (known_on s c n w g.0 h)
 
 not_known : {A : Type 0} (o : Option A) → is_some o ≡ false → o ≡ None
@@ -142,7 +143,7 @@ by_operation s c o r e = (
 )
 
 pub loc_there : (es : Entries) (loc : Option Name) (n : Name) (w : Word) → loc ≡ Some n → known_as (defined es loc w) n ≡ Some w
-loc_there es loc n w e = ap (λ (l : Option Name). known_as (defined es l w) n) e ∙ ap word_of_some (put_there es n (Defined w))
+loc_there es loc n w e = ap (λ (l : Option Name). known_as (defined es l w) n) e ∙ ap (option_and_then word_in) (put_there es n (Defined w))
 
 -- what LOC is defined by stands to the end
 pub once : (s : State) (c : List ℕ) (cs : List (List ℕ)) (a : Assembled) (o : Operation) (n : Name) → read_from s (c ∷ cs) ≡ Ok a → is_remark c ≡ false → operation_of (op_of c) ≡ Some o → loc_name c ≡ Some n → (known_as s.symbols n ≡ None) × (known_as a.symbols n ≡ Some (loc_word (ready_for s c o) c o))

@@ -11,7 +11,8 @@ use Rattle.names.specs.declared.kinds.Operation.{Operation}
 use Rattle.names.specs.declared.kinds.Operation.TheVariants.{Machine, Equ, Orig, Con, Alf, End}
 use Rattle.scan.specs.Columns.{is_remark, op_of, address_of}
 use Rattle.std.proofs.lemmas.Bool.{both_ways, and_parts, or_parts, not-false}
-use Rattle.symbols.specs.Symbols.{meaning_of, word_of_some, known_as}
+use Rattle.std.specs.Option.{option_and_then}
+use Rattle.symbols.specs.Symbols.{meaning_of, word_in, known_as}
 use Rattle.symbols.specs.declared.meaning.Meaning.{Meaning}
 use Rattle.symbols.specs.declared.meaning.Meaning.TheVariants.{Defined, Awaited}
 use Rattle.table.proofs.Orders.{name_same-Decides}
@@ -189,7 +190,7 @@ end_settles s c n e f p = at (in_loc (loc_name c) n) refl (low (operation_of (op
         let u = d.under in
         record {
           value = word_of Plus d.location;
-          known = ap word_of_some (defined_keeps (at_end s c).symbols (loc_name c) _ n g ∙ d.means);
+          known = ap (option_and_then word_in) (defined_keeps (at_end s c).symbols (loc_name c) _ n g ∙ d.means);
           short = omega arith;
         }
 

@@ -1,16 +1,15 @@
 -- Letters and digits, and the codes of a symbol.
-use Rattle.std.proofs.Common.{◌≡◌, ℕ, zero, suc, ◌-◌, ◌<◌, ◌≤◌, Bool, true, false, cond, ◌&&◌, eqb, leb, List, [], ◌∷◌, ◌++◌, map, length, replicate, is_some, IfSome, Some, None, Option, sym, refl, ap, ◌∙◌, arith}
-use Rattle.std.proofs.lemmas.List.{map-append}
+use Rattle.std.proofs.Common.{◌≡◌, ℕ, ◌-◌, ◌<◌, ◌≤◌, Bool, true, false, cond, ◌&&◌, eqb, leb, List, [], ◌∷◌, map, length, is_some, IfSome, Some, None, Option, sym, refl, ap, ◌∙◌, arith}
 use Rattle.std.proofs.lemmas.Bool.{and_parts, leb-true, le-leb, cond-true}
 use Rattle.std.proofs.lemmas.Bool.Decides.{nat_tests}
 use Rattle.std.specs.Option.{option_map}
 use Rattle.card.specs.Lines.{trimmed}
-use Rattle.card.specs.Table.{characters, character_of, code_of, run_code}
-use Rattle.card.specs.Text.{text_codes, codes_in, all_coded}
+use Rattle.card.specs.Table.{character_of, code_of, run_code}
+use Rattle.card.specs.Text.{text_codes, filled, codes_in, all_coded}
 use Rattle.card.proofs.Blanks.{trim_blanks}
-use Rattle.card.proofs.Codes.{coded, some_codes, some_mapped}
+use Rattle.card.proofs.Codes.{coded, filled_text, some_codes, some_mapped}
 use Rattle.card.proofs.Rule.{run_code_found}
-use Rattle.scan.specs.Symbols.{is_mark, all_marks, any_letter, is_symbol, ten_of, name_of}
+use Rattle.scan.specs.Symbols.{is_mark, all_marks, any_letter, is_symbol, name_of}
 
 -- a letter or a digit has a code, and is no blank
 mark_coded : (b : ℕ) → is_mark b ≡ true → is_some (code_of b) ≡ true
@@ -45,28 +44,16 @@ symbol_short bs h = leb-true (length bs) 10 (and_parts (leb (length bs) 10) (all
 pub symbol_coded : (bs : List ℕ) → is_symbol bs ≡ true → is_some (text_codes bs) ≡ true
 symbol_coded bs h = some_codes bs ∙ marks_coded bs (symbol_marks bs h)
 
--- a zero is a blank
-zero_blanks : (n : ℕ) → map character_of (replicate n 0) ≡ replicate n 32
-unfolding characters
-zero_blanks zero = refl
-zero_blanks (suc n) = ap (λ (l : List ℕ). 32 ∷ l) (zero_blanks n)
-
--- the characters of ten codes are the text and blanks
-ten_text : (bs cs : List ℕ) → map character_of cs ≡ bs → map character_of (ten_of cs) ≡ bs ++ replicate (10 - length cs) 32
-ten_text bs cs e =
-    map-append character_of cs (replicate (10 - length cs) 0) ∙ ap (λ (l : List ℕ). l ++ map character_of (replicate (10 - length cs) 0)) e
-    ∙ ap (λ (l : List ℕ). bs ++ l) (zero_blanks (10 - length cs))
-
 -- a name's codes give its text back
 pub name_back : (bs cs : List ℕ) → name_of bs ≡ Some cs → trimmed (map character_of cs) ≡ bs
 name_back bs cs e = at (is_symbol bs) refl (text_codes bs) refl e
   where
-    at : (t : Bool) → is_symbol bs ≡ t → (o : Option (List ℕ)) → text_codes bs ≡ o → cond t (option_map ten_of o) None ≡ Some cs → trimmed (map character_of cs) ≡ bs
+    at : (t : Bool) → is_symbol bs ≡ t → (o : Option (List ℕ)) → text_codes bs ≡ o → cond t (option_map (filled 10) o) None ≡ Some cs → trimmed (map character_of cs) ≡ bs
     at false p o q f = let z : ◌≡◌ {A = ℕ} 0 1 = cc in absurd (omega arith)
     at true p None q f = let z : ◌≡◌ {A = ℕ} 0 1 = cc in absurd (omega arith)
     at true p (Some ds) q f =
-        let k : cs ≡ ten_of ds = cc in
-        ap (λ (l : List ℕ). trimmed (map character_of l)) k ∙ ap trimmed (ten_text bs ds (coded bs ds q).text) ∙ trim_blanks bs (10 - length ds) ∙ marks_trimmed bs (symbol_marks bs p)
+        let k : cs ≡ filled 10 ds = cc in
+        ap (λ (l : List ℕ). trimmed (map character_of l)) k ∙ ap trimmed (filled_text 10 bs ds (coded bs ds q).text) ∙ trim_blanks bs (10 - length ds) ∙ marks_trimmed bs (symbol_marks bs p)
 
 -- so no two symbols have the same codes
 pub name_alone : (bs cs ds : List ℕ) → name_of bs ≡ Some cs → name_of ds ≡ Some cs → ds ≡ bs
@@ -75,11 +62,11 @@ name_alone bs cs ds e f = sym (name_back ds cs f) ∙ name_back bs cs e
 -- the codes of a symbol's characters are its name, and there are some
 pub symbol_name : (bs : List ℕ) → is_symbol bs ≡ true → codes_in 10 bs ≡ name_of bs
 symbol_name bs h =
-    let o = option_map ten_of (text_codes bs) in
+    let o = option_map (filled 10) (text_codes bs) in
     cond-true (leb (length bs) 10) o None (le-leb (length bs) 10 (symbol_short bs h)) ∙ sym (cond-true (is_symbol bs) o None h)
 
 pub symbol_named : (bs : List ℕ) → is_symbol bs ≡ true → is_some (name_of bs) ≡ true
-symbol_named bs h = ap is_some (cond-true (is_symbol bs) (option_map ten_of (text_codes bs)) None h) ∙ some_mapped ten_of (text_codes bs) ∙ symbol_coded bs h
+symbol_named bs h = ap is_some (cond-true (is_symbol bs) (option_map (filled 10) (text_codes bs)) None h) ∙ some_mapped (filled 10) (text_codes bs) ∙ symbol_coded bs h
 
 -- what a name's codes are said to give
 pub name_gives : (bs : List ℕ) (o : Option (List ℕ)) → o ≡ name_of bs → IfSome o (λ cs. trimmed (map character_of cs) ≡ bs)

@@ -1,7 +1,7 @@
 -- Symbols and their codes.
-use Rattle.std.specs.Prelude.{ℕ, ◌-◌, Bool, true, false, cond, ◌&&◌, ◌||◌, List, [], ◌∷◌, ◌++◌, length, replicate, None, Option, nat_le}
+use Rattle.std.specs.Prelude.{ℕ, Bool, true, false, cond, ◌&&◌, ◌||◌, List, [], ◌∷◌, length, None, Option, nat_le}
 use Rattle.std.specs.Option.{option_map}
-use Rattle.card.specs.Text.{text_codes}
+use Rattle.card.specs.Text.{text_codes, filled}
 
 -- a letter, A to Z
 abbrev pub is_letter : ℕ → Bool
@@ -29,10 +29,6 @@ any_letter (b ∷ bs) = is_letter b || any_letter bs
 abbrev pub is_symbol : List ℕ → Bool
 is_symbol bs = nat_le (length bs) 10 && (all_marks bs && any_letter bs)
 
--- ten codes: those given, and zeros after them
-abbrev pub ten_of : List ℕ → List ℕ
-ten_of cs = cs ++ replicate (10 - length cs) 0
-
--- the codes of a symbol's characters; none where the text is no symbol
+-- the codes of a symbol's characters, ten with the zeros after them; none where the text is no symbol
 abbrev pub name_of : List ℕ → Option (List ℕ)
-name_of bs = cond (is_symbol bs) (option_map ten_of (text_codes bs)) None
+name_of bs = cond (is_symbol bs) (option_map (filled 10) (text_codes bs)) None

@@ -1,5 +1,6 @@
 -- Symbols: the list of names with their meanings, in the order of the names.
 use Rattle.std.specs.Prelude.{List, Some, None, Option}
+use Rattle.std.specs.Option.{option_and_then}
 use Rattle.symbols.specs.declared.meaning.Meaning.{Meaning}
 use Rattle.symbols.specs.declared.meaning.Meaning.TheVariants.{Defined, Awaited}
 use Rattle.symbols.specs.declared.symbols.Symbols.{Symbols}
@@ -21,11 +22,6 @@ abbrev pub word_in : Meaning → Option Word
 word_in (Defined w) = Some w
 word_in Awaited = None
 
--- the word of a name's meaning, if it has appeared and has one
-abbrev pub word_of_some : Option Meaning → Option Word
-word_of_some None = None
-word_of_some (Some m) = word_in m
-
 -- the word that a symbol was defined by
 abbrev pub known_as : List (Name × Meaning) → Name → Option Word
-known_as es n = word_of_some (meaning_of es n)
+known_as es n = option_and_then word_in (meaning_of es n)
