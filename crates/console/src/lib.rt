@@ -1,52 +1,18 @@
-// What the programs do: read all of the input, write the report on it, and tell what failed.
+// The calls of the console: a deck is assembled and loaded, the machine runs, is asked and closed, and the sheet
+// is given; and the promise that holds of any two rooms.
 #![tactic(auto)]
 
-ghost use Rattle.std.specs.Prelude.{◌≡◌, ◌↔◌, ℕ, List, IfOk, IfSome, IsOk, OnOk};
-ghost use Rattle.std.specs.Io.KnownBytes.{Appends, IsAtEnd};
-ghost use Rattle.std.specs.Process.{exit_status};
+mod both_rooms;
+mod calls;
+mod closed;
+mod fault;
+mod faults;
+mod loaded;
+mod room;
+mod sheets;
 
-use std::alloc::{AllocError, Global};
-use std::io::{Eprint, Read, Write};
-use std::process::ExitCode;
-
-#[cfg(test)]
-mod tests;
-
-// What a program writes of all that it reads.
-pub trait Report {
-    // The bytes written, by the bytes read.
-    ghost text: { List ℕ → List ℕ };
-
-    fn report(heap: Global, input: &[u8]) -> Result<Vec<u8>, AllocError>
-        ensures { IfOk result (λ out. out.items ≡ text input.now) };
-}
-
-// Reads the input to its end, and writes the report on it to the output.
-pub fn filter<P: Report, R: Read, W: Write>(
-    heap: Global,
-    input: &mut R,
-    output: &mut W,
-) -> anyhow::Result<()>
-    ensures read { OnOk result (IsAtEnd (R.remaining input.new)) }
-    ensures written { OnOk result (IfSome (R.remaining input.old)
-        (λ bytes. Appends (W.contents output.old) (W.contents output.new) (P.text bytes))) }
-{
-    let mut bytes = Vec::new(heap);
-    input.read_to_end(&mut bytes)?;
-    let report = P::report(heap, &bytes)?;
-    output.write_all(&report)?;
-    Ok(())
-}
-
-// How a program ends: well, or else with a line on standard error that says why not.
-pub fn status<E: Eprint>(rt: &E, program: &str, outcome: anyhow::Result<()>) -> ExitCode
-    ensures { exit_status result ≡ 0 ↔ IsOk outcome }
-{
-    match outcome {
-        Ok(()) => ExitCode::SUCCESS,
-        Err(why) => {
-            let _ = eprintln!(rt; "{program}: {why}");
-            ExitCode::FAILURE
-        }
-    }
-}
+pub use both_rooms::two_rooms;
+pub use closed::Closed;
+pub use fault::JobFault;
+pub use loaded::Loaded;
+pub use room::Room;

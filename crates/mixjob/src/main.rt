@@ -1,24 +1,25 @@
-// mixjob: reads cards from standard input, punches each again, and prints them.
+// mixjob: reads a deck and its data cards from standard input, and prints the listing, the symbols and what comes of
+// the run, or the deck's rejection.
 #![tactic(auto)]
 
-ghost use Rattle.copies.specs.Copies.{report};
+ghost use Rattle.jobs.specs.Jobs.{printed};
 
-use console::{Report, filter, status};
 use std::alloc::{AllocError, Global};
 use std::process::ExitCode;
+use streams::{Report, filter, status};
 
-// The cards that are read, punched again.
-struct Copies;
+// The deck that is read, listed and run with its data cards, or rejected.
+struct Job;
 
-impl Report for Copies {
-    ghost text = { report };
+impl Report for Job {
+    ghost text = { printed };
 
     fn report(heap: Global, input: &[u8]) -> Result<Vec<u8>, AllocError> {
-        copies::copied(heap, input)
+        jobs::report(heap, input)
     }
 }
 
 fn main(rt: HostRuntime) -> ExitCode {
-    let outcome = filter::<Copies, _, _>(rt.alloc(), &mut rt.stdin(), &mut rt.stdout());
+    let outcome = filter::<Job, _, _>(rt.alloc(), &mut rt.stdin(), &mut rt.stdout());
     status(&rt, "mixjob", outcome)
 }

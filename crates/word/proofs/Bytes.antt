@@ -16,6 +16,13 @@ pow_pos n = one-le-pow n 64 (omega arith)
 pub pow_fits : (n : ℕ) → n ≤ 10 → 64 ^ n < 2 ^ 64
 pow_fits n h = let p = pow-le-pow_right {n = 64} (omega arith) h in omega arith
 
+-- a power of 64 as one of 2
+pub pow_bits : (n : ℕ) → 2 ^ (6 * n) ≡ 64 ^ n
+pow_bits zero = refl
+pow_bits (suc n) =
+    let e : 6 * suc n ≡ 6 + 6 * n = omega arith in
+    rw (e, pow-add 2 6 (6 * n), pow_bits n) (omega (arith, pow-suc 64 n))
+
 pub length_unpacked : (n m : ℕ) → length (unpacked n m) ≡ n
 unfolding unpacked
 length_unpacked zero m = refl

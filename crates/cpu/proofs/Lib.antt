@@ -1,0 +1,11 @@
+pub mod Cells
+pub mod Fetching
+pub mod Fields
+pub mod Indices
+pub mod Moving
+pub mod Framing
+pub mod Laws
+pub mod Coding
+pub mod Numbers
+pub mod Timing
+pub mod Codes

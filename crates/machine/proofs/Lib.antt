@@ -1,0 +1,7 @@
+pub mod Acting
+pub mod Calm
+pub mod Counting
+pub mod Joining
+pub mod Running
+pub mod Stepping
+pub mod Writing

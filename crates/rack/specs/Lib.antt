@@ -1,0 +1,3 @@
+pub mod Units
+pub mod Transfers
+pub mod Laws

@@ -1,0 +1,16 @@
+pub mod Areas
+pub mod Frame
+pub mod Eager
+pub mod Relation
+pub mod Carry
+pub mod Acts
+pub mod Each
+pub mod Astray
+pub mod Flying
+pub mod Settled
+pub mod Sim
+pub mod Counts
+pub mod Granted
+pub mod Runs
+pub mod Room
+pub mod Rooms

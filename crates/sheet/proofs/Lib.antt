@@ -1,0 +1,9 @@
+pub mod Rows
+pub mod Memory
+pub mod Cuts
+pub mod Digits
+pub mod Ranks
+pub mod Singles
+pub mod Columns
+pub mod Labels
+pub mod Told

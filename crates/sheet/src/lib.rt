@@ -1,0 +1,9 @@
+// The sheet of a machine that was closed, as text.
+#![tactic(auto)]
+
+mod blocks;
+mod numbers;
+mod sheet;
+mod words;
+
+pub use sheet::sheet_text;
