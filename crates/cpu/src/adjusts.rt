@@ -15,6 +15,7 @@ use word::Word;
 
 impl Processor {
     // A register is increased or decreased by M, or gets M or -M.
+    #[inline(always)]
     pub(crate) fn adjust(
         &mut self,
         command: Command,
@@ -38,6 +39,7 @@ impl Processor {
     }
 
     // A number is added to a register.
+    #[inline(always)]
     fn increase(&mut self, command: Command, register: Register, by: Word) -> Result<Step, Fault>
         requires { self.old.registers.location < 4000 }
         ensures { Runs (λ o. increasing o register by) command self.old self.new result }
@@ -49,6 +51,7 @@ impl Processor {
     }
 
     // A register gets a word.
+    #[inline(always)]
     fn enter(&mut self, command: Command, register: Register, word: Word) -> Result<Step, Fault>
         requires { self.old.registers.location < 4000 }
         ensures { Runs (λ o. loading o register word o.registers) command self.old self.new result }
@@ -58,6 +61,7 @@ impl Processor {
     }
 
     // The bytes of A, or of A and X, are shifted by M.
+    #[inline(always)]
     pub(crate) fn shift(&mut self, command: Command, shift: Shift) -> Result<Step, Fault>
         requires { self.old.registers.location < 4000 }
         ensures { Runs (λ o. program o (ShiftBytes shift)) command self.old self.new result }

@@ -17,6 +17,7 @@ use word::Word;
 
 impl Registers {
     // Jumps to the location that a number is, or goes on; tells what J is set to by a jump.
+    #[inline(always)]
     pub fn go(&mut self, jumps: bool, to: Word) -> Result<Option<u16>, Fault>
         ensures { self.old.location < 4000 → Went (cond jumps (jump_to to self.old) (Ok (along self.old))) self.old self.new result }
     {
@@ -33,6 +34,7 @@ impl Registers {
 
 impl Processor {
     // The jumps that no register decides.
+    #[inline(always)]
     pub(crate) fn jump_if(&mut self, command: Command, jump: Jump) -> Result<Step, Fault>
         requires { self.old.registers.location < 4000 }
         ensures { Runs (λ o. program o (JumpIf jump)) command self.old self.new result }
@@ -53,6 +55,7 @@ impl Processor {
     }
 
     // The jumps on a register.
+    #[inline(always)]
     pub(crate) fn jump_on(
         &mut self,
         command: Command,
@@ -67,6 +70,7 @@ impl Processor {
     }
 
     // A jump to M, if it is taken.
+    #[inline(always)]
     fn jump(&mut self, command: Command, taken: bool) -> Result<Step, Fault>
         requires { self.old.registers.location < 4000 }
         ensures { Runs (λ o. jumping o taken o.registers) command self.old self.new result }
@@ -79,6 +83,7 @@ impl Processor {
     }
 
     // A jump that leaves the toggle off.
+    #[inline(always)]
     fn jump_by_toggle(&mut self, command: Command, taken: bool) -> Result<Step, Fault>
         requires { self.old.registers.location < 4000 }
         ensures { Runs (λ o. jumping o taken (toggle_off o.registers)) command self.old self.new result }
@@ -92,6 +97,7 @@ impl Processor {
     }
 
     // A jump that leaves J.
+    #[inline(always)]
     fn jump_past_j(&mut self, command: Command) -> Result<Step, Fault>
         ensures { Runs jumping_past_j command self.old self.new result }
     {
@@ -102,6 +108,7 @@ impl Processor {
 
 impl Test {
     // What the test says of a word.
+    #[inline(always)]
     fn passes(self, word: Word) -> bool
         ensures { result ≡ passes self word }
     {

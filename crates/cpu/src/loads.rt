@@ -13,6 +13,7 @@ use word::{Field, Word};
 
 impl Processor {
     // The word at M goes to a register.
+    #[inline(always)]
     pub(crate) fn load(
         &mut self,
         command: Command,
@@ -28,6 +29,7 @@ impl Processor {
     }
 
     // The word at M goes to a register, with its sign turned.
+    #[inline(always)]
     pub(crate) fn load_negative(
         &mut self,
         command: Command,
@@ -43,6 +45,7 @@ impl Processor {
     }
 
     // The indicator tells how a field of a register and that of the word at M compare.
+    #[inline(always)]
     pub(crate) fn compare(
         &mut self,
         command: Command,
@@ -60,6 +63,7 @@ impl Processor {
     }
 
     // A word goes to a register, and the next instruction follows; rejected where an index register has no room.
+    #[inline(always)]
     pub(crate) fn fill(&mut self, register: Register, word: Word) -> Result<(), Fault>
         requires { self.old.registers.location < 4000 }
         ensures { Fills register word self.old self.new result }

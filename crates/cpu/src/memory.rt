@@ -9,6 +9,7 @@ use crate::processor::Processor;
 use word::{Sign, Word};
 
 // The location that a number is.
+#[inline(always)]
 pub(crate) fn location(number: Word) -> Result<u16, Fault>
     ensures found { MatchResult result (λ l. location_of number ≡ Some l) (λ f. (location_of number ≡ None) × (f ≡ Outside number)) }
     ensures within { IfOk result (λ l. l < 4000) }
@@ -26,6 +27,7 @@ pub(crate) fn location(number: Word) -> Result<u16, Fault>
 impl Processor {
     // The word at a location.
     #[tactic(auto, using(crate::proofs::Cells::cell_read))]
+    #[inline(always)]
     pub(crate) fn word(&self, location: u16) -> Word
         requires { location < 4000 }
         ensures { result ≡ cells self.now.memory location }
@@ -35,6 +37,7 @@ impl Processor {
 
     // Puts a word at a location.
     #[tactic(auto, using(crate::proofs::Cells::cell_written))]
+    #[inline(always)]
     pub(crate) fn put(&mut self, location: u16, word: Word)
         requires { location < 4000 }
         ensures memory { cells self.new.memory ≡ stored (cells self.old.memory) location word }

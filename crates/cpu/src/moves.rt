@@ -13,6 +13,7 @@ use word::{Index, Sign, Word};
 
 impl Processor {
     // As many words as are told go from M on to the location in I1 on, one by one, and are added to I1.
+    #[inline(always)]
     pub(crate) fn move_words(&mut self, command: Command, count: u8) -> Result<Step, Fault>
         requires { self.old.registers.location < 4000 }
         ensures { Runs (λ o. program o (MoveWords count)) command self.old self.new result }
@@ -40,6 +41,7 @@ impl Processor {
 
     // Copies words one by one, upward.
     #[tactic(auto, using(crate::proofs::Moving::copied_more))]
+    #[inline(never)]
     fn copy(&mut self, from: u16, to: u16, count: u16)
         requires source { from + count ≤ 4000 }
         requires target { to + count ≤ 4000 }

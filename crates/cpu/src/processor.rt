@@ -23,6 +23,7 @@ pub struct Processor {
 impl Processor {
     // Executes the instruction at the location, j being the word of J.
     #[tactic(auto, using(crate::proofs::Laws::instruction_laws, crate::proofs::Fetching::fetched), unfolding(crate::specs::Instructions::instruction))]
+    #[inline(always)]
     pub fn execute(&mut self, j: Word) -> Result<Step, Fault>
         ensures executed { Executes (instruction self.old.registers) (self.old.registers.location ∷ []) j self.old.registers (cells self.old.memory) self.new.registers (cells self.new.memory) result }
         ensures within { OnOk result (self.old.registers.location < 4000) }
@@ -35,17 +36,22 @@ impl Processor {
         let word = self.word(here);
         let c = (word.magnitude % 64) as u8;
         let f = (word.magnitude / 64 % 64) as u8;
-        let m = self.registers.number(word).ok_or(Fault::Unlisted(here))?;
-        let operation = decode(c, f).ok_or(Fault::Unlisted(here))?;
+        let Some(m) = self.registers.number(word) else {
+            return Err(Fault::Unlisted(here));
+        };
         let command = Command {
             time: Instruction { c, f }.time(),
             sign: word.sign,
             m,
         };
-        self.perform(operation, command, j)
+        match decode(c, f) {
+            Some(operation) => self.perform(operation, command, j),
+            None => Err(Fault::Unlisted(here)),
+        }
     }
 
     // Executes an operation.
+    #[inline(always)]
     fn perform(&mut self, operation: Operation, command: Command, j: Word) -> Result<Step, Fault>
         requires { self.old.registers.location < 4000 }
         ensures { Executes (program (order_of self.old.registers command) operation) [] j self.old.registers (cells self.old.memory) self.new.registers (cells self.new.memory) result }

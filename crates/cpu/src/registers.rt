@@ -26,6 +26,7 @@ pub struct Registers {
 
 impl Registers {
     // What a register holds.
+    #[inline(always)]
     pub fn get(&self, register: Register) -> Word
         ensures { result ≡ held self.now register }
     {
@@ -42,6 +43,7 @@ impl Registers {
     }
 
     // Puts a word in a register; an error where it is an index register and the word is beyond 4,095.
+    #[inline(always)]
     pub fn set(&mut self, register: Register, word: Word) -> Result<(), BeyondIndex>
         ensures room { is_ok result ≡ fits register word }
         ensures ok { OnOk result (self.new ≡ changed self.old register word) }
@@ -61,6 +63,7 @@ impl Registers {
     }
 
     // M of an instruction: the address, plus what the index register holds that it names, if there is one.
+    #[inline(always)]
     pub fn number(&self, instruction: Word) -> Option<Word>
         ensures { result ≡ number_m self.now instruction }
     {
@@ -82,6 +85,7 @@ impl Registers {
 
 // A word as an index register holds it; an error where it is beyond 4,095.
 #[tactic(auto, using(crate::proofs::Indices::index_found))]
+#[inline(always)]
 fn index(word: Word) -> Result<Index, BeyondIndex>
     ensures room { is_ok result ≡ nat_le word.magnitude 4095 }
     ensures index { IfOk result (λ i. i ≡ index_of word) }

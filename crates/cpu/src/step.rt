@@ -40,6 +40,7 @@ impl Span {
     pub(crate) const NONE: Span = Span { start: 0, count: 0 };
 
     // One location.
+    #[inline(always)]
     pub(crate) fn one(start: u16) -> Span
         ensures { result ≡ record { start = start; count = 1 } }
     {
@@ -49,6 +50,7 @@ impl Span {
 
 impl Step {
     // A step that leaves memory alone, and the registers too.
+    #[inline(always)]
     pub(crate) fn staying(time: u32, next: Next) -> Step
         ensures { result ≡ record { time = time; reads = none; writes = none; takes_j = false; next = next } }
     {
@@ -62,6 +64,7 @@ impl Step {
     }
 
     // A step that goes on with the next instruction.
+    #[inline(always)]
     pub(crate) fn along(time: u32, reads: Span, writes: Span) -> Step
         ensures { result ≡ record { time = time; reads = reads; writes = writes; takes_j = false; next = Goes None } }
     {

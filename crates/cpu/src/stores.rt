@@ -14,6 +14,7 @@ use word::{Field, Sign, Word};
 
 impl Processor {
     // A register goes to a field of the word at M.
+    #[inline(always)]
     pub(crate) fn store(
         &mut self,
         command: Command,
@@ -28,6 +29,7 @@ impl Processor {
     }
 
     // +0 goes to a field of the word at M.
+    #[inline(always)]
     pub(crate) fn store_zero(&mut self, command: Command, field: Field) -> Result<Step, Fault>
         requires { self.old.registers.location < 4000 }
         ensures { Runs (λ o. program o (StoreZero field)) command self.old self.new result }
@@ -36,6 +38,7 @@ impl Processor {
     }
 
     // J goes to a field of the word at M.
+    #[inline(always)]
     pub(crate) fn store_j(&mut self, command: Command, field: Field, j: Word) -> Result<Step, Fault>
         requires { self.old.registers.location < 4000 }
         ensures { Executes (program (order_of self.old.registers command) (StoreJ field)) [] j self.old.registers (cells self.old.memory) self.new.registers (cells self.new.memory) result }
@@ -50,6 +53,7 @@ impl Processor {
     }
 
     // A word goes to a field of the word at M.
+    #[inline(always)]
     fn store_word(&mut self, command: Command, field: Field, word: Word) -> Result<Step, Fault>
         requires { self.old.registers.location < 4000 }
         ensures { Runs (λ o. storing o field word) command self.old self.new result }

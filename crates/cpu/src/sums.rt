@@ -15,6 +15,7 @@ use word::Field;
 
 impl Registers {
     // A gets a sum, and the toggle goes on where it was too large.
+    #[inline(always)]
     fn take_sum(&mut self, sum: Sum)
         ensures { self.new ≡ toggled sum.overflow (record self.old { a = sum.word }) }
     {
@@ -23,6 +24,7 @@ impl Registers {
     }
 
     // A and X together.
+    #[inline(always)]
     pub(crate) fn pair(&self) -> Pair
         ensures { result ≡ pair_in self.now }
     {
@@ -32,6 +34,7 @@ impl Registers {
         }
     }
 
+    #[inline(always)]
     pub(crate) fn set_pair(&mut self, pair: Pair)
         ensures { self.new ≡ with_pair self.old pair }
     {
@@ -42,6 +45,7 @@ impl Registers {
 
 impl Processor {
     // The word at M is added to A.
+    #[inline(always)]
     pub(crate) fn add(&mut self, command: Command, field: Field) -> Result<Step, Fault>
         requires { self.old.registers.location < 4000 }
         ensures { Runs (λ o. program o (Add field)) command self.old self.new result }
@@ -54,6 +58,7 @@ impl Processor {
     }
 
     // The word at M is subtracted from A.
+    #[inline(always)]
     pub(crate) fn subtract(&mut self, command: Command, field: Field) -> Result<Step, Fault>
         requires { self.old.registers.location < 4000 }
         ensures { Runs (λ o. program o (Subtract field)) command self.old self.new result }
@@ -66,6 +71,7 @@ impl Processor {
     }
 
     // A times the word at M goes to A and X.
+    #[inline(always)]
     pub(crate) fn multiply(&mut self, command: Command, field: Field) -> Result<Step, Fault>
         requires { self.old.registers.location < 4000 }
         ensures { Runs (λ o. program o (Multiply field)) command self.old self.new result }
@@ -78,6 +84,7 @@ impl Processor {
     }
 
     // AX by the word at M: the quotient goes to A and the remainder to X, or the toggle goes on.
+    #[inline(always)]
     pub(crate) fn divide(&mut self, command: Command, field: Field) -> Result<Step, Fault>
         requires { self.old.registers.location < 4000 }
         ensures { Runs (λ o. program o (Divide field)) command self.old self.new result }

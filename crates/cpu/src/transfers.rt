@@ -13,6 +13,7 @@ use rack::{Transfer, Unit};
 
 impl Registers {
     // The number of a disk's block.
+    #[inline(always)]
     fn block(&self) -> u16
         ensures { result ≡ block_number self.now }
     {
@@ -22,6 +23,7 @@ impl Registers {
 
 impl Processor {
     // Nothing is done.
+    #[inline(always)]
     pub(crate) fn nothing(&mut self, command: Command) -> Result<Step, Fault>
         requires { self.old.registers.location < 4000 }
         ensures { Runs (λ o. program o Nothing) command self.old self.new result }
@@ -31,6 +33,7 @@ impl Processor {
     }
 
     // A jump to M if the unit is busy; one to itself waits.
+    #[inline(always)]
     pub(crate) fn jump_busy(&self, command: Command, unit: Unit) -> Result<Step, Fault>
         ensures { Runs (λ o. program o (JumpBusy unit)) command self.now self.now result }
     {
@@ -43,6 +46,7 @@ impl Processor {
     }
 
     // A jump to M if the unit is not busy.
+    #[inline(always)]
     pub(crate) fn jump_ready(&self, command: Command, unit: Unit) -> Result<Step, Fault>
         ensures { Runs (λ o. program o (JumpReady unit)) command self.now self.now result }
     {
@@ -50,6 +54,7 @@ impl Processor {
     }
 
     // The unit is moved by M.
+    #[inline(always)]
     pub(crate) fn control(&self, command: Command, unit: Unit) -> Result<Step, Fault>
         ensures { Runs (λ o. program o (Control unit)) command self.now self.now result }
     {
@@ -60,6 +65,7 @@ impl Processor {
     }
 
     // A block is read to M onward.
+    #[inline(always)]
     pub(crate) fn input(&self, command: Command, unit: Unit) -> Result<Step, Fault>
         ensures { Runs (λ o. program o (Input unit)) command self.now self.now result }
     {
@@ -68,6 +74,7 @@ impl Processor {
     }
 
     // A block is written from M onward.
+    #[inline(always)]
     pub(crate) fn output(&self, command: Command, unit: Unit) -> Result<Step, Fault>
         ensures { Runs (λ o. program o (Output unit)) command self.now self.now result }
     {
@@ -75,6 +82,7 @@ impl Processor {
         Ok(Step::staying(command.time, Next::Issues(unit, put, command.m)))
     }
 
+    #[inline(always)]
     pub(crate) fn halt(&self, command: Command) -> Result<Step, Fault>
         ensures { Runs (λ o. program o Halt) command self.now self.now result }
     {

@@ -3,17 +3,17 @@ use Rattle.std.proofs.Common.{◌≡◌, ℕ, zero, suc, ◌+◌, ◌<◌, Bool,
 use Rattle.std.proofs.lemmas.Bool.{cases_eq}
 use Rattle.std.proofs.lemmas.Bool.Decides.{nat_tests}
 use Rattle.std.specs.List.{list_any}
-use Rattle.std.specs.Option.{option_map}
+use Rattle.std.specs.Option.{option_map, option_or}
 use Rattle.cpu.specs.Executed.{row, locations}
 use Rattle.cpu.specs.declared.step.Span.{Span}
 use Rattle.flights.specs.Flights.{covers, overlap, takes, puts, unit_at, units}
 use Rattle.flights.specs.Kept.{between, outside}
-use Rattle.flights.specs.Watch.{Open, mark_for, or_else, touch_mark, first_unit, touches_input, writes_output}
+use Rattle.flights.specs.Watch.{Open, mark_for, touch_mark, first_unit, touches_input, writes_output}
 use Rattle.flights.specs.declared.flight.Flight.{Flight}
 use Rattle.flights.specs.declared.mark.MarkKind.TheVariants.{InputTouched, OutputWritten}
 
 -- the first unit of which a test holds
-pub first_more : (n : ℕ) (f : ℕ → Bool) → first_unit (n + 1) f ≡ or_else (first_unit n f) (cond (f n) (Some n) None)
+pub first_more : (n : ℕ) (f : ℕ → Bool) → first_unit (n + 1) f ≡ option_or (first_unit n f) (cond (f n) (Some n) None)
 unfolding first_unit
 first_more n f = rw add-one
 
@@ -29,7 +29,7 @@ unfolding first_unit
 first_found zero u f l h e = absurd (omega arith)
 first_found (suc n) u f l h e = go (cases_eq u n) (λ k. first_found n u f k h e)
   where
-    go : (u ≡ n) ⊎ (u ≡ n → ⊥) → (u < n → first_unit n f ≡ Some u) → or_else (first_unit n f) (cond (f n) (Some n) None) ≡ Some u
+    go : (u ≡ n) ⊎ (u ≡ n → ⊥) → (u < n → first_unit n f ≡ Some u) → option_or (first_unit n f) (cond (f n) (Some n) None) ≡ Some u
     go (inl i) below = let h′ : first_unit n f ≡ None = rw (← i) h in let e′ : f n ≡ true = rw (← i) e in rw (h′, e′) (ap (λ k. Some k) (sym i))
     go (inr i) below = let k = below (omega arith) in rw k
 
@@ -88,6 +88,10 @@ pub apart : (low high : ℕ) (x : Flight) (s : Span) → outside low high s ≡ 
 unfolding overlap
 apart low high x s h o = grind (arith, nat_tests)
 
+-- where that part is empty everything lies outside
+pub shut : (low high : ℕ) (s : Span) → high ≡ 0 → outside low high s ≡ true
+shut low high s e = grind (arith, nat_tests)
+
 uncovered : (low high l : ℕ) (x : Flight) → outside low high (record { start = l; count = 1 }) ≡ true → between low high (Some x) ≡ true → covers x.area l ≡ false
 unfolding covers
 uncovered low high l x h o = grind (arith, nat_tests)
@@ -111,6 +115,6 @@ module _ (low high l : ℕ) (r w : Span) (fetch : outside low high (record { sta
   pub no_touch : (o : Open) → ((u : ℕ) → between low high (o u) ≡ true) → None ≡ touch_mark o (l ∷ locations r) (locations w) l
   unfolding touch_mark
   no_touch o h =
-      ap₂ (λ a b. or_else (mark_for InputTouched l a) (mark_for OutputWritten l b))
+      ap₂ (λ a b. option_or (mark_for InputTouched l a) (mark_for OutputWritten l b))
       (sym (first_none units (λ u. touches_input (l ∷ locations r) (locations w) (o u)) (λ u. not_touched (o u) (h u))))
       (sym (first_none units (λ u. writes_output (locations w) (o u)) (λ u. not_written (o u) (h u))))

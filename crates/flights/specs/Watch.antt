@@ -1,7 +1,7 @@
 -- The watch: what is met of open transfers, and the marks.
 use Rattle.std.specs.Prelude.{ℕ, zero, suc, Bool, false, cond, not, ◌&&◌, ◌||◌, List, Some, None, Option, ◌==◌}
 use Rattle.std.specs.List.{list_any}
-use Rattle.std.specs.Option.{option_map}
+use Rattle.std.specs.Option.{option_map, option_or}
 use Rattle.flights.specs.Flights.{units, unit_at, takes, puts, covers, overlap}
 use Rattle.flights.specs.declared.flight.Flight.{Flight}
 use Rattle.flights.specs.declared.mark.Mark.{Mark}
@@ -20,15 +20,10 @@ kind_number JStored = 5
 abbrev pub Open : Type 0
 Open = ℕ → Option Flight
 
--- the first of two, if there is one
-abbrev pub or_else : {A : Type 0} → Option A → Option A → Option A
-or_else (Some x) y = Some x
-or_else None y = y
-
 -- the smallest of the first n units of which f holds
 unfoldable pub first_unit : ℕ → (ℕ → Bool) → Option ℕ
 first_unit zero f = None
-first_unit (suc n) f = or_else (first_unit n f) (cond (f n) (Some n) None)
+first_unit (suc n) f = option_or (first_unit n f) (cond (f n) (Some n) None)
 
 -- a mark of a kind at a location, for the unit that is met, if one is
 abbrev pub mark_for : MarkKind → ℕ → Option ℕ → Option Mark
@@ -53,7 +48,7 @@ writes_output ws x = list_any (λ l. in_output l x) ws
 -- kinds 1 and 2, for an instruction at l that reads the words rs and writes the words ws
 unfoldable pub touch_mark : Open → List ℕ → List ℕ → ℕ → Option Mark
 touch_mark o rs ws l =
-    or_else
+    option_or
     (mark_for InputTouched l (first_unit units (λ u. touches_input rs ws (o u))))
     (mark_for OutputWritten l (first_unit units (λ u. writes_output ws (o u))))
 

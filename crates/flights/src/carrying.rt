@@ -91,6 +91,7 @@ impl Flights {
     }
 
     // All transfers that are due by a time are carried out, in order, as far as they are accepted.
+    #[inline(never)]
     fn drain<R: Rack>(
         &mut self,
         by: u64,
@@ -115,6 +116,7 @@ impl Flights {
     }
 
     // The same, with one test where nothing is due.
+    #[inline(always)]
     pub fn catch_up<R: Rack>(
         &mut self,
         by: u64,

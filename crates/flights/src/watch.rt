@@ -105,6 +105,7 @@ impl Flights {
     }
 
     // Whether a span lies outside the part of memory in which areas are open.
+    #[inline(always)]
     fn misses(&self, span: Span) -> bool
         ensures { result ≡ outside self.now.low self.now.high span }
     {
@@ -115,6 +116,7 @@ impl Flights {
 
     // The mark for what an instruction touches, looked for unit by unit.
     #[tactic(auto, unfolding(crate::specs::Watch::touch_mark))]
+    #[inline(never)]
     fn find_touched(&self, location: u16, reads: Span, writes: Span) -> Option<Mark>
         ensures { result ≡ touch_mark (λ u. opened (states_in self.now.states u)) (location ∷ locations reads) (locations writes) location }
     {
@@ -134,9 +136,14 @@ impl Flights {
 
     // The mark for what an instruction touches: a word in an open IN's area, or one in an open OUT's that it
     // writes.
+    #[inline(always)]
     pub fn touch_mark(&self, location: u16, reads: Span, writes: Span) -> Option<Mark>
         ensures { result ≡ touch_mark (λ u. opened (states_in self.now.states u)) (location ∷ locations reads) (locations writes) location }
     {
+        // no area is open, as in most steps
+        if self.high == 0 {
+            return None;
+        }
         let fetch = Span {
             start: location,
             count: 1,

@@ -1,7 +1,6 @@
 -- An instruction that does not go on leaves memory as it was.
-use Rattle.std.proofs.Common.{◌≡◌, ℕ, zero, suc, ◌*◌, ◌<◌, ◌≤◌, Bool, true, false, cond, ◌==◌, leb, nat_lt, List, [], ◌∷◌, get_or, Option, Some, None, Ok, Err, Result, refl, ap, ◌∙◌, arith, leb-true}
+use Rattle.std.proofs.Common.{◌≡◌, ℕ, zero, suc, Bool, true, false, cond, nat_lt, Option, Some, None, Ok, Err, Result, refl}
 use Rattle.std.specs.Prelude.{⊤}
-use Rattle.std.proofs.lemmas.Bool.{eqb-true, false≢true, and_parts}
 use Rattle.arith.specs.declared.pair.Pair.{Pair}
 use Rattle.names.specs.Times.{time_of}
 use Rattle.cpu.specs.Decoding.{code_in, field_in, number_m, decoded}

@@ -1,10 +1,9 @@
 -- Runs one after the other; machines that have stopped; memory that a step leaves alone.
-use Rattle.std.proofs.Common.{◌≡◌, ◌≢◌, ℕ, zero, suc, ◌+◌, ◌-◌, ◌^◌, ◌<◌, ◌≤◌, Bool, true, false, cond, not, ◌&&◌, ◌||◌, eqb, ltb, leb, nat_lt, List, Some, None, Ok, Err, Option, Result, refl, sym, ap, subst, ◌∙◌, arith, add_assoc, zero-add, suc-add}
+use Rattle.std.proofs.Common.{◌≡◌, ℕ, zero, suc, ◌+◌, ◌^◌, ◌≤◌, Bool, true, false, cond, not, ◌&&◌, ◌||◌, eqb, ltb, leb, Some, None, Ok, Err, Option, Result, refl, sym, ap, subst, ◌∙◌, arith, add_assoc, zero-add, suc-add}
 use Rattle.std.proofs.lemmas.Bool.{lt-leb}
 use Rattle.std.proofs.lemmas.Bool.Decides.{nat_tests}
-use Rattle.std.specs.List.{AllByRecursion}
 use Rattle.cpu.specs.Instructions.{instruction}
-use Rattle.cpu.specs.Programs.{Memory, Outcome, Program, Way, memory_after, outcome_of, writes_of}
+use Rattle.cpu.specs.Programs.{Memory, Outcome, Way, memory_after, outcome_of}
 use Rattle.cpu.specs.Programs.Outcome.{goes, tests, waits, issues, halts, fails}
 use Rattle.cpu.specs.declared.fault.Fault.{Fault as Rejection}
 use Rattle.cpu.specs.declared.registers.Registers.{Registers}
@@ -26,10 +25,8 @@ use Rattle.machine.specs.Steps.{State, Step, acknowledged, act, begun, halted as
 use Rattle.machine.specs.Steps.Step.{ready, asks}
 use Rattle.machine.specs.declared.phase.Phase.{Phase}
 use Rattle.machine.specs.declared.phase.Phase.TheVariants.{Running, Halted, Faulted}
-use Rattle.machine.specs.declared.phase.RunRefusal.{RunRefusal}
 use Rattle.machine.specs.declared.phase.RunRefusal.TheVariants.{Budget, NotRunning, ClockPast}
-use Rattle.machine.proofs.Running.{Accepted, accepted}
-use Rattle.machine.proofs.Stepping.{step_still}
+use Rattle.machine.proofs.Running.{accepted}
 use Rattle.machine.proofs.Writing.{writes_law}
 use Rattle.rack.specs.Transfers.{Answer, perform}
 use Rattle.rack.specs.Units.{Holdings, kind_of}

@@ -13,7 +13,8 @@ use Rattle.cpu.specs.declared.step.Step.{Step as Executed}
 use Rattle.flights.specs.Flights.{Core, Drained, drain, later, last_due, opens, units}
 use Rattle.flights.specs.Flights.Drained.{clear, broke}
 use Rattle.flights.specs.Issues.{flight_if}
-use Rattle.flights.specs.Watch.{j_mark, or_else, touch_mark}
+use Rattle.std.specs.Option.{option_or}
+use Rattle.flights.specs.Watch.{j_mark, touch_mark}
 use Rattle.flights.specs.declared.fault.Fault.{Fault}
 use Rattle.flights.specs.declared.flight.Flight.{Flight}
 use Rattle.flights.specs.declared.flight.UnitState.{UnitState}
@@ -113,11 +114,11 @@ module _ (s : State) (c : Core) (r : Registers) (m : Memory) (x : Executed) wher
     calmed : Calm (said x.time x.next r) c.memory m
     calmed = subst (λ o. Calm o c.memory m) d.outcome (subst (Calm (outcome_of (instruction c.registers) c.memory) c.memory) d.memory (calm c.registers (j_word s.j) c.memory))
 
-    mark_same : or_else s.mark (or_else (touch_mark (opens c) (c.registers.location ∷ locations x.reads) (locations x.writes) c.registers.location) (cond (not s.j.settled && x.takes_j) (Some (j_mark c.registers.location)) None))
+    mark_same : option_or s.mark (option_or (touch_mark (opens c) (c.registers.location ∷ locations x.reads) (locations x.writes) c.registers.location) (cond (not s.j.settled && x.takes_j) (Some (j_mark c.registers.location)) None))
         ≡ touched s c (instruction c.registers)
-    mark_same = λ i. or_else s.mark (or_else (touch_mark (opens c) (sym d.reads i) (sym d.writes i) c.registers.location) (cond (not s.j.settled && sym d.takes i) (Some (j_mark c.registers.location)) None))
+    mark_same = λ i. option_or s.mark (option_or (touch_mark (opens c) (sym d.reads i) (sym d.writes i) c.registers.location) (cond (not s.j.settled && sym d.takes i) (Some (j_mark c.registers.location)) None))
 
-    pub executed : (a : Option Mark) → a ≡ or_else s.mark (or_else (touch_mark (opens c) (c.registers.location ∷ locations x.reads) (locations x.writes) c.registers.location) (cond (not s.j.settled && x.takes_j) (Some (j_mark c.registers.location)) None))
+    pub executed : (a : Option Mark) → a ≡ option_or s.mark (option_or (touch_mark (opens c) (c.registers.location ∷ locations x.reads) (locations x.writes) c.registers.location) (cond (not s.j.settled && x.takes_j) (Some (j_mark c.registers.location)) None))
         → act (record s { core = record c { registers = r; memory = m } }) (record c { registers = r; memory = m }) m a (said x.time x.next r) ≡ obeys s c (instruction c.registers)
     executed a e =
         act_core s (record c { registers = r; memory = m }) (record c { registers = r; memory = m }) m a (said x.time x.next r)

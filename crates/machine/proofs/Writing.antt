@@ -1,13 +1,13 @@
 -- Which instructions write memory, and where.
-use Rattle.std.proofs.Common.{◌≡◌, ◌≢◌, ℕ, zero, suc, ◌+◌, ◌<◌, ◌≤◌, Bool, true, false, cond, nat_lt, List, [], ◌∷◌, Some, None, Ok, Err, Option, Result, refl, sym, ap, subst, ◌∙◌, arith}
+use Rattle.std.proofs.Common.{◌≡◌, ℕ, zero, suc, ◌+◌, ◌<◌, ◌≤◌, Bool, true, false, cond, nat_lt, Some, None, Ok, Err, Option, Result, refl, arith}
 use Rattle.std.specs.List.{AllByRecursion}
 use Rattle.arith.specs.declared.pair.Pair.{Pair}
 use Rattle.names.specs.Times.{time_of}
 use Rattle.cpu.specs.Decoding.{code_in, decoded, field_in, number_m}
-use Rattle.cpu.specs.Instructions.{Order, adjusting, at, dividing, going, instruction, is_here, jump_busy, jump_if, jump_to, jumping, loading, located, location_of, moving, program, program_of, storing, storing_j, taking, testing}
+use Rattle.cpu.specs.Instructions.{Order, adjusting, at, dividing, instruction, jump_if, jump_to, jumping, loading, located, location_of, moving, program, program_of, taking, testing}
 use Rattle.cpu.specs.Programs.{Memory, Program, Way, stored, writes_of}
 use Rattle.cpu.specs.Programs.Program.{read, write, save, done}
-use Rattle.cpu.specs.Programs.Outcome.{fails, goes}
+use Rattle.cpu.specs.Programs.Outcome.{fails}
 use Rattle.cpu.specs.Registers.{fits, held}
 use Rattle.cpu.specs.declared.fault.Fault.{Fault}
 use Rattle.cpu.specs.declared.fault.Fault.TheVariants.{Outside}

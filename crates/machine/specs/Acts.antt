@@ -12,7 +12,8 @@ use Rattle.flights.specs.declared.fault.Fault.{Fault}
 use Rattle.rack.specs.Units.{Holdings}
 use Rattle.rack.specs.declared.request.Request.{Request}
 use Rattle.machine.specs.Runs.{Comes}
-use Rattle.flights.specs.Watch.{meet_mark, or_else}
+use Rattle.std.specs.Option.{option_or}
+use Rattle.flights.specs.Watch.{meet_mark}
 use Rattle.flights.specs.declared.flight.Flight.{Flight}
 use Rattle.flights.specs.declared.flight.UnitState.TheVariants.{Busy}
 use Rattle.flights.specs.declared.mark.Mark.{Mark}
@@ -51,7 +52,7 @@ launched d t u r a x s =
     record s {
       core = record s.core { registers = r; states = with_state s.core.states u.number (Busy x (s.counts.clock + t + d)) };
       counts = telling d (worked t s.counts);
-      mark = or_else a (meet_mark (opens s.core) u.number x x.location);
+      mark = option_or a (meet_mark (opens s.core) u.number x x.location);
     }
 
 -- and the rack, which told it, holding what the units held

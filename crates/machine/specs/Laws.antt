@@ -6,7 +6,7 @@ use Rattle.cpu.specs.Instructions.{instruction, location_of}
 use Rattle.cpu.specs.Programs.{Memory, writes_of}
 use Rattle.cpu.specs.Registers.{held}
 use Rattle.cpu.specs.declared.operation.Operation.{Operation}
-use Rattle.cpu.specs.declared.operation.Operation.TheVariants.{Nothing, Add, Subtract, Multiply, Divide, Halt, ShiftBytes, MoveWords, Load, LoadNegative, Store, StoreJ, StoreZero, JumpBusy, Control, Input, Output, JumpReady, JumpIf, JumpOn, Adjust, Compare}
+use Rattle.cpu.specs.declared.operation.Operation.TheVariants.{MoveWords, Store, StoreJ, StoreZero}
 use Rattle.cpu.specs.declared.register.Register.TheVariants.{I1}
 use Rattle.cpu.specs.declared.registers.Registers.{Registers}
 use Rattle.flights.specs.Flights.{Core, covers, drain, takes, units}

@@ -14,7 +14,8 @@ use Rattle.word.specs.Word.{word_of}
 use Rattle.flights.specs.Flights.{Core, Drained, units, opens, with_state, drain, later, last_due}
 use Rattle.flights.specs.Flights.Drained.{clear, broke}
 use Rattle.flights.specs.Issues.{flight_if}
-use Rattle.flights.specs.Watch.{or_else, touch_mark, meet_mark, poll_mark, j_mark}
+use Rattle.std.specs.Option.{option_or}
+use Rattle.flights.specs.Watch.{touch_mark, meet_mark, poll_mark, j_mark}
 use Rattle.machine.specs.declared.counts.Counts.{Counts}
 use Rattle.flights.specs.declared.fault.Fault.{Fault}
 use Rattle.flights.specs.declared.fault.Fault.TheVariants.{Instruction as of_instruction}
@@ -86,9 +87,9 @@ went_if s old c m t a (Ok w) = went s c m t w a
 -- JRED, and JBUS elsewhere: an open unit is marked, and a unit that is not busy is acknowledged
 abbrev pub tested : State → Core → Memory → ℕ → ℕ → Result Way Rejection → Result Way Rejection → Option Mark → UnitState → State
 tested s c m t u busy free a Idle = went_if s c c m t a free
-tested s c m t u busy free a (Busy x due) = went_if s c c m t (or_else a (Some (poll_mark u c.registers.location))) busy
+tested s c m t u busy free a (Busy x due) = went_if s c c m t (option_or a (Some (poll_mark u c.registers.location))) busy
 tested s c m t u busy free a (Done x) =
-    went_if s c (acknowledged u c) m t (or_else a (Some (poll_mark u c.registers.location))) free
+    went_if s c (acknowledged u c) m t (option_or a (Some (poll_mark u c.registers.location))) free
 
 -- JBUS to itself: a waiting step while the unit is busy, which sets J and unsettles it; else the unit is
 -- acknowledged, and if it was open J is unsettled
@@ -108,7 +109,7 @@ issued s now t u r a x (clear c) =
     record s {
       core = record c { registers = r; states = with_state c.states u.number (Busy x (now + t + d)) };
       counts = telling d (worked t (until now s.counts));
-      mark = or_else a (meet_mark (opens c) u.number x x.location);
+      mark = option_or a (meet_mark (opens c) u.number x x.location);
     })
 
 abbrev pub issued_if : State → Core → ℕ → Unit → Registers → Option Mark → Result Flight Fault → Step
@@ -139,8 +140,8 @@ act s c m a (fails f) = ready (failed s c s.counts (of_instruction f))
 abbrev pub touched : State → Core → Program → Option Mark
 touched s c p =
     let l = c.registers.location in
-    or_else s.mark (
-    or_else (touch_mark (opens c) (reads_of p c.memory) (writes_of p c.memory) l)
+    option_or s.mark (
+    option_or (touch_mark (opens c) (reads_of p c.memory) (writes_of p c.memory) l)
     (cond (not s.j.settled && takes_j p c.memory) (Some (j_mark l)) None))
 
 -- the word of J

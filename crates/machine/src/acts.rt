@@ -1,13 +1,12 @@
-ghost use Rattle.std.specs.Prelude.{◌≡◌, ◌^◌, ◌<◌, cond, not, Ok};
+ghost use Rattle.std.specs.Prelude.{◌≡◌, ◌^◌, ◌<◌, cond, not, true, Ok};
 ghost use Rattle.cpu.specs.Executed.{cells};
 ghost use Rattle.cpu.specs.Instructions.{along, jump_to};
 ghost use Rattle.cpu.specs.Registers.{going_to, onward};
 ghost use Rattle.flights.specs.Flights.{states_in};
-ghost use Rattle.flights.specs.Watch.{or_else};
 ghost use Rattle.machine.specs.Acts.{Finds, ended};
 ghost use Rattle.machine.specs.Model.{core_of, stands};
 ghost use Rattle.machine.specs.Small.{Small};
-ghost use Rattle.machine.specs.Steps.{j_after, j_word, paused, tested, unsettled, went};
+ghost use Rattle.machine.specs.Steps.{j_word, paused, tested, unsettled, went};
 
 use crate::j::J;
 use crate::parts::Parts;
@@ -18,20 +17,19 @@ use rack::{Rack, Unit};
 use word::{Sign, Word};
 
 impl J {
-    // J after a step that goes on: a jump that sets it settles it.
-    pub(crate) fn after(self, jump: Option<u16>) -> J
-        ensures { result ≡ j_after self jump }
+    // A location that is settled.
+    #[inline(always)]
+    pub(crate) fn settled(location: u16) -> J
+        ensures { result ≡ record { location = location; settled = true } }
     {
-        match jump {
-            Some(location) => J {
-                location,
-                settled: true,
-            },
-            None => self,
+        J {
+            location,
+            settled: true,
         }
     }
 
     // J as a word.
+    #[inline(always)]
     pub(crate) fn word(self) -> Word
         ensures { result ≡ j_word self }
     {
@@ -46,16 +44,6 @@ impl J {
             location,
             settled: false,
         }
-    }
-}
-
-// The first of two marks, if there is one.
-pub(crate) fn first(one: Option<Mark>, other: Option<Mark>) -> Option<Mark>
-    ensures { result ≡ or_else one other }
-{
-    match one {
-        Some(mark) => Some(mark),
-        None => other,
     }
 }
 
@@ -83,16 +71,20 @@ fn turn(registers: Registers, jumps: bool, to: Word) -> Result<Turn, cpu::Fault>
 
 impl<R: Rack> Parts<R> {
     // A working step that goes on, the registers and the memory after it being there already.
+    #[inline(always)]
     pub(crate) fn go(&mut self, time: u32, jump: Option<u16>, mark: Option<Mark>)
         requires { Small (2 ^ 63) self.old.counts }
         ensures { stands R.holds self.new ≡ went (stands R.holds self.old) (core_of R.holds self.old) (cells self.old.processor.memory) time (record { jump = jump; registers = self.old.processor.registers }) mark }
     {
-        self.j = self.j.after(jump);
+        if let Some(location) = jump {
+            self.j = J::settled(location);
+        }
         self.counts.work(time);
         self.mark = mark;
     }
 
     // JBUS to itself: it waits while the unit is busy; else the unit is acknowledged.
+    #[inline(never)]
     pub(crate) fn pause(&mut self, time: u32, unit: Unit, mark: Option<Mark>)
         requires small { Small (2 ^ 63) self.old.counts }
         requires here { self.old.processor.registers.location < 4000 }
@@ -128,6 +120,7 @@ impl<R: Rack> Parts<R> {
 
     // JRED, and JBUS to another location, which jumps if the unit is busy: an open unit is marked, and one that
     // is not busy is acknowledged.
+    #[inline(never)]
     pub(crate) fn test(
         &mut self,
         time: u32,
@@ -153,12 +146,12 @@ impl<R: Rack> Parts<R> {
             }
             UnitState::Busy(_, _) => {
                 let turn = turn(registers, on_busy, to)?;
-                self.follow(time, turn, first(mark, Some(polled)));
+                self.follow(time, turn, mark.or(Some(polled)));
             }
             UnitState::Done(_) => {
                 let turn = turn(registers, !on_busy, to)?;
                 self.flights.acknowledge(unit);
-                self.follow(time, turn, first(mark, Some(polled)));
+                self.follow(time, turn, mark.or(Some(polled)));
             }
         }
         Ok(())

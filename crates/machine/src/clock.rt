@@ -21,6 +21,7 @@ impl Counts {
     }
 
     // A working step of a time.
+    #[inline(always)]
     pub(crate) fn work(&mut self, time: u32)
         requires { Small (2 ^ 63) self.old }
         ensures { self.new ≡ worked time self.old }

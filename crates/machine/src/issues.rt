@@ -8,7 +8,6 @@ ghost use Rattle.machine.specs.Small.{Low, Small};
 ghost use Rattle.machine.specs.Steps.{halted, issued_if};
 ghost use Rattle.rack.specs.Units.{kind_of};
 
-use crate::acts::first;
 use crate::parts::Parts;
 use crate::phase::Phase;
 use flights::{Fault, Flights, Issue, Mark};
@@ -31,11 +30,12 @@ impl<R: Rack> Parts<R> {
         self.flights.issue(issue, due);
         self.counts.work(time);
         self.counts.tell(told);
-        self.mark = first(mark, met);
+        self.mark = mark.or(met);
         self.processor.registers.location += 1;
     }
 
     // IN, OUT and IOC: the unit's transfer under way is waited for, and then the new one is issued.
+    #[inline(never)]
     pub(crate) fn issue(
         &mut self,
         time: u32,
@@ -57,6 +57,7 @@ impl<R: Rack> Parts<R> {
     }
 
     // HLT: all transfers under way are waited for; then all units are acknowledged, and the machine halts.
+    #[inline(never)]
     pub(crate) fn halt(&mut self, time: u32, mark: Option<Mark>) -> Result<(), Fault>
         requires low { Low (2 ^ 61) (stands R.holds self.old) }
         requires here { self.old.processor.registers.location < 4000 }

@@ -87,6 +87,7 @@ impl<R: Rack> Parts<R> {
     }
 
     // A budget of steps is granted, and they are made until the machine stops.
+    #[inline(never)]
     fn run(&mut self, budget: u32)
         requires accepted { refused budget (stands R.holds self.old) ≡ None }
         requires sane { Sane (stands R.holds self.old) }

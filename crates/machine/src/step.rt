@@ -1,7 +1,8 @@
 ghost use Rattle.std.specs.Prelude.{◌≡◌, ◌^◌, ◌&&◌, ◌∷◌, cond, not, None, Some};
 ghost use Rattle.cpu.specs.Executed.{cells, locations, said};
 ghost use Rattle.flights.specs.Flights.{opened, states_in};
-ghost use Rattle.flights.specs.Watch.{j_mark, or_else, touch_mark};
+ghost use Rattle.std.specs.Option.{option_or};
+ghost use Rattle.flights.specs.Watch.{j_mark, touch_mark};
 ghost use Rattle.machine.specs.Acts.{Came, Here};
 ghost use Rattle.machine.specs.Model.{core_of, stands};
 ghost use Rattle.machine.specs.Runs.{Comes};
@@ -9,7 +10,6 @@ ghost use Rattle.machine.specs.Small.{Low};
 ghost use Rattle.machine.specs.Steps.{act, step};
 ghost use Rattle.machine.specs.declared.phase.Phase.TheVariants.{Running};
 
-use crate::acts::first;
 use crate::parts::Parts;
 use crate::phase::Phase;
 use cpu::{Next, Step};
@@ -18,6 +18,7 @@ use rack::{Rack, Unit};
 
 impl<R: Rack> Parts<R> {
     // What comes of an instruction that was executed.
+    #[inline(always)]
     fn act(&mut self, step: Step, mark: Option<Mark>) -> Result<(), Fault>
         requires low { Low (2 ^ 61) (stands R.holds self.old) }
         requires here { Here step.next self.old.processor.registers.location }
@@ -41,24 +42,28 @@ impl<R: Rack> Parts<R> {
     }
 
     // The mark after an instruction at a location was executed: the first one, for what it touches or for J.
+    #[inline(always)]
     fn watch(&self, location: u16, step: Step) -> Option<Mark>
-        ensures { result ≡ or_else self.now.mark (or_else (touch_mark (λ u. opened (states_in self.now.flights.states u)) (location ∷ locations step.reads) (locations step.writes) location) (cond (not self.now.j.settled && step.takes_j) (Some (j_mark location)) None)) }
+        ensures { result ≡ option_or self.now.mark (option_or (touch_mark (λ u. opened (states_in self.now.flights.states u)) (location ∷ locations step.reads) (locations step.writes) location) (cond (not self.now.j.settled && step.takes_j) (Some (j_mark location)) None)) }
     {
-        let stored = Mark {
-            kind: MarkKind::JStored,
-            unit: Unit { number: 0 },
-            location,
-        };
-        let touched = self.flights.touch_mark(location, step.reads, step.writes);
-        let taken = if !self.j.settled && step.takes_j {
-            Some(stored)
-        } else {
-            None
-        };
-        first(self.mark, first(touched, taken))
+        if self.mark.is_some() {
+            return self.mark;
+        }
+        if let Some(mark) = self.flights.touch_mark(location, step.reads, step.writes) {
+            return Some(mark);
+        }
+        if step.takes_j && !self.j.settled {
+            return Some(Mark {
+                kind: MarkKind::JStored,
+                unit: Unit { number: 0 },
+                location,
+            });
+        }
+        None
     }
 
     // What is due is carried out, and then the next instruction is executed.
+    #[inline(always)]
     fn advance(&mut self) -> Result<(), Fault>
         requires low { Low (2 ^ 60) (stands R.holds self.old) }
         requires runs { self.old.phase ≡ Running }
@@ -71,11 +76,17 @@ impl<R: Rack> Parts<R> {
         )?;
         let location = self.processor.registers.location;
         let step = self.processor.execute(self.j.word())?;
+        if let Next::Goes(jump) = step.next {
+            let mark = self.watch(location, step);
+            self.go(step.time, jump, mark);
+            return Ok(());
+        }
         let mark = self.watch(location, step);
         self.act(step, mark)
     }
 
     // One step; a machine that has stopped stays as it is.
+    #[inline(always)]
     pub(crate) fn step(&mut self)
         requires { Low (2 ^ 60) (stands R.holds self.old) }
         ensures { Comes R.holds R.tells (step (stands R.holds self.old)) (stands R.holds self.new) }

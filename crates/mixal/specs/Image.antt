@@ -1,5 +1,6 @@
 -- The words of a deck by location.
 use Rattle.std.specs.Prelude.{ℕ, cond, List, [], ◌∷◌, Some, None, Option, ◌==◌}
+use Rattle.std.specs.Option.{option_or}
 use Rattle.table.specs.Keys.{location_before, location_same}
 use Rattle.table.specs.Pairs.{put}
 use Rattle.table.specs.declared.location.Location.{Location}
@@ -24,12 +25,7 @@ abbrev pub word_at : ℕ → Option (ℕ × Word) → Option Word
 word_at l None = None
 word_at l (Some p) = cond (p.0 == l) (Some p.1) None
 
--- the first of two, if there is one
-abbrev pub or_else : Option Word → Option Word → Option Word
-or_else None w = w
-or_else (Some v) w = Some v
-
 -- the word of the last line that has one for a location
 abbrev pub last_at : ℕ → List Line → Option Word
 last_at l [] = None
-last_at l (x ∷ xs) = or_else (last_at l xs) (word_at l x.at)
+last_at l (x ∷ xs) = option_or (last_at l xs) (word_at l x.at)

@@ -2,7 +2,7 @@
 use Rattle.std.proofs.Common.{◌≡◌, ℕ, zero, suc, List, [], ◌∷◌, map, get_or, replicate, Some, None, Ok, Err, Option, Result, refl, sym, ap, subst, ◌∙◌}
 use Rattle.std.specs.Prelude.{⊤, slice_get}
 use Rattle.card.specs.Text.{text_words}
-use Rattle.rack.specs.Transfers.{Answer, After, block_in, if_ring, on_kind, on_unit, put_on, put_to, received, shift_of, shift_on, take_from, take_on, write_text}
+use Rattle.rack.specs.Transfers.{Leaves, Answer, After, block_in, if_ring, on_kind, on_unit, put_on, put_to, received, shift_of, shift_on, take_from, take_on, write_text}
 use Rattle.rack.specs.Units.{Holding, Holdings, kind_of, text_in, columns}
 use Rattle.rack.specs.declared.fault.UnitFault.{UnitFault}
 use Rattle.rack.specs.declared.fault.UnitFault.TheVariants.{Absent, NotAllowed}
@@ -12,7 +12,7 @@ use Rattle.word.specs.declared.word.Word.{Word}
 use Rattle.paper.specs.Lawful.{device_has}
 use Rattle.paper.specs.Reader.{alone}
 use Rattle.paper.specs.Tray.{device_kind, device_number, device_size, shown}
-use Rattle.paper.specs.TrayRack.{Left, lines_of, tray_units}
+use Rattle.paper.specs.TrayRack.{lines_of, tray_units}
 use Rattle.paper.specs.declared.device.Device.{Device}
 use Rattle.paper.specs.declared.device.Device.TheVariants.{Punch, Printer}
 use Rattle.paper.specs.declared.lines.Lines.{Lines}
@@ -28,14 +28,14 @@ put_text : (v : Unit) (a : ℕ) (ws : List Word) (d : Device) (h : Holding) → 
 put_text v a ws Punch h = refl
 put_text v a ws Printer h = refl
 
-left_after : (v : Unit) (n m : ℕ) (g h : Holding) (a : Answer) (r : Result ⊤ UnitFault) → v.number ≡ n → m ≡ n → Left a g h r → After v a (alone n (Some g)) (alone m (Some h)) r
+left_after : (v : Unit) (n m : ℕ) (g h : Holding) (a : Answer) (r : Result ⊤ UnitFault) → v.number ≡ n → m ≡ n → Leaves a g h r → After v a (alone n (Some g)) (alone m (Some h)) r
 left_after v n m g h (Ok e) (Ok x) p q l =
     ap (λ (k : ℕ). alone k (Some h)) q ∙ ap (λ (k : Holding). alone n (Some k)) l ∙ alone_updated n v.number (Some g) (Some e.holding) p
 left_after v n m g h (Ok e) (Err f) p q l = l
 left_after v n m g h (Err f) (Ok x) p q l = l
 left_after v n m g h (Err f) (Err k) p q l = (l.0, ap (λ (i : ℕ). alone i (Some h)) q ∙ ap (λ (k : Holding). alone n (Some k)) l.1)
 
-pub put_done : (v : Unit) (a : ℕ) (area : List Word) (o : Option Lines) (l m : Lines) (r : Result ⊤ UnitFault) → o ≡ Some l → v.number ≡ device_number l.device → m.device ≡ l.device → Left (if_ring v l.ring (write_text v (block_in area (device_kind l.device)) (lines_of l))) (lines_of l) (lines_of m) r → After v (put_to v a area (tray_units o v.number)) (tray_units o) (tray_units (Some m)) r
+pub put_done : (v : Unit) (a : ℕ) (area : List Word) (o : Option Lines) (l m : Lines) (r : Result ⊤ UnitFault) → o ≡ Some l → v.number ≡ device_number l.device → m.device ≡ l.device → Leaves (if_ring v l.ring (write_text v (block_in area (device_kind l.device)) (lines_of l))) (lines_of l) (lines_of m) r → After v (put_to v a area (tray_units o v.number)) (tray_units o) (tray_units (Some m)) r
 unfolding put_to
 put_done v a area o l m r s p q h = subst (λ (x : Option Lines). After v (put_to v a area (tray_units x v.number)) (tray_units x) (tray_units (Some m)) r) (sym s) here
   where

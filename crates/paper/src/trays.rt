@@ -2,9 +2,9 @@ ghost use Rattle.std.specs.Prelude.{◌≡◌, ◌≤◌, ◌<◌, ◌⊎◌, �
 ghost use Rattle.rack.specs.declared.kind.Kind.TheVariants.{Punch as punch_kind};
 ghost use Rattle.card.specs.Text.{text_words, words_text};
 ghost use Rattle.paper.specs.Tray.{device_number, device_kind, device_size, lines_held, shown};
-ghost use Rattle.paper.specs.TrayRack.{lines_of, tray_holds, tray_tells, Left};
+ghost use Rattle.paper.specs.TrayRack.{lines_of, tray_holds, tray_tells};
 ghost use Rattle.paper.specs.Reader.{alone, nowhere};
-ghost use Rattle.rack.specs.Transfers.{After, block_in, if_ring, on_unit, printable, put_to, received, shift_of, take_from, write_text};
+ghost use Rattle.rack.specs.Transfers.{Leaves, After, block_in, if_ring, on_unit, printable, put_to, received, shift_of, take_from, write_text};
 ghost use Rattle.rack.specs.Units.{columns, text_in};
 ghost use Rattle.rack.specs.declared.request.Request.{Request};
 
@@ -84,7 +84,7 @@ impl Lines {
 
     // The block at the front of an area is written as one more line.
     fn write(&mut self, unit: Unit, area: &[Word]) -> Result<(), UnitFault>
-        ensures lines { Left (if_ring unit self.old.ring (write_text unit (block_in area.now (device_kind self.old.device)) (lines_of self.old)))
+        ensures lines { Leaves (if_ring unit self.old.ring (write_text unit (block_in area.now (device_kind self.old.device)) (lines_of self.old)))
             (lines_of self.old) (lines_of self.new) result }
         ensures device { self.new.device ≡ self.old.device }
     {

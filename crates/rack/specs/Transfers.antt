@@ -150,6 +150,13 @@ perform u (Shift m) ws h = shift_of u m h
 unfoldable pub updated : Holdings → ℕ → Option Holding → Holdings
 updated g u h v = cond (v == u) h (g v)
 
+-- what a call leaves of one unit's holding: what the answer says, or all as it was where that is a rejection
+abbrev pub Leaves : Answer → Holding → Holding → Result ⊤ UnitFault → Type 0
+Leaves (Ok e) old new (Ok x) = new ≡ e.holding
+Leaves (Ok e) old new (Err f) = ⊥
+Leaves (Err f) old new (Ok x) = ⊥
+Leaves (Err f) old new (Err g) = (g ≡ f) × (new ≡ old)
+
 -- what a call on one unit leaves of a rack: no other unit alters, and a rejected call alters none
 abbrev pub After : Unit → Answer → Holdings → Holdings → Result ⊤ UnitFault → Type 0
 After u (Ok e) old new (Ok x) = new ≡ updated old u.number (Some e.holding)

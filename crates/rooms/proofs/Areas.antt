@@ -5,7 +5,8 @@ use Rattle.std.proofs.lemmas.Bool.Decides.{nat_tests}
 use Rattle.cpu.specs.Programs.{Memory}
 use Rattle.cpu.specs.declared.step.Span.{Span}
 use Rattle.flights.specs.Flights.{takes, puts, covers, overlap, words_at, given, delivered}
-use Rattle.flights.specs.Watch.{or_else, first_unit, mark_for, in_input, in_output}
+use Rattle.std.specs.Option.{option_or}
+use Rattle.flights.specs.Watch.{first_unit, mark_for, in_input, in_output}
 use Rattle.flights.specs.declared.flight.Flight.{Flight}
 use Rattle.flights.specs.declared.mark.MarkKind.{MarkKind}
 use Rattle.rack.specs.declared.request.Transfer.{Transfer}
@@ -15,9 +16,9 @@ use Rattle.word.specs.declared.word.Word.{Word}
 use Rattle.word.specs.Word.{word_of}
 
 -- neither of two there is none
-pub or_else-none : {A : Type 0} (x y : Option A) → or_else x y ≡ None → (x ≡ None) × (y ≡ None)
-or_else-none (Some x) y h = cc
-or_else-none None y h = (refl, h)
+pub neither : {A : Type 0} (x y : Option A) → option_or x y ≡ None → (x ≡ None) × (y ≡ None)
+neither (Some x) y h = cc
+neither None y h = (refl, h)
 
 pub no_mark : (k : MarkKind) (l : ℕ) (u : Option ℕ) → mark_for k l u ≡ None → u ≡ None
 no_mark k l None h = refl
@@ -32,7 +33,7 @@ pub none_found : (n : ℕ) (f : ℕ → Bool) → first_unit n f ≡ None → (u
 unfolding first_unit
 none_found zero f h u l = absurd (omega arith)
 none_found (suc n) f h u l =
-    let p = or_else-none (first_unit n f) (cond (f n) (Some n) None) h in
+    let p = neither (first_unit n f) (cond (f n) (Some n) None) h in
     go p.1 (cases_eq u n) (λ k. none_found n f p.0 u k)
   where
     go : cond (f n) (Some n) None ≡ None → (u ≡ n) ⊎ (u ≡ n → ⊥) → (u < n → f u ≡ false) → f u ≡ false

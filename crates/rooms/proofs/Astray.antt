@@ -11,7 +11,8 @@ use Rattle.flights.specs.Flights.{Core, Drained, units, drain, later, last_due}
 use Rattle.flights.specs.Flights.Drained.{clear, broke}
 use Rattle.machine.specs.Steps.{State, acknowledged, went_if, tested, paused, issued, issued_if, halted as has_halted, act, touched, j_word, begun, step_in, step}
 use Rattle.flights.specs.Issues.{flight_if}
-use Rattle.flights.specs.Watch.{or_else, first_unit, touch_mark, meet_mark}
+use Rattle.std.specs.Option.{option_or}
+use Rattle.flights.specs.Watch.{first_unit, touch_mark, meet_mark}
 use Rattle.flights.specs.declared.fault.Fault.{Fault}
 use Rattle.flights.specs.declared.flight.Flight.{Flight}
 use Rattle.flights.specs.declared.flight.UnitState.{UnitState}
@@ -45,11 +46,11 @@ abbrev pub Bad : State → Type 0
 Bad s = Failed s.phase ⊎ Marked s.mark
 
 -- a mark is kept; one more makes a mark
-pub mark_stays : (a b : Option Mark) → Marked a → Marked (or_else a b)
+pub mark_stays : (a b : Option Mark) → Marked a → Marked (option_or a b)
 mark_stays None b h = absurd h
 mark_stays (Some k) b h = tt
 
-pub mark_made : (a : Option Mark) (k : Mark) → Marked (or_else a (Some k))
+pub mark_made : (a : Option Mark) (k : Mark) → Marked (option_or a (Some k))
 mark_made None k = tt
 mark_made (Some m) k = tt
 

@@ -10,7 +10,7 @@ use Rattle.flights.specs.declared.flight.Flight.{Flight}
 use Rattle.flights.specs.declared.mark.MarkKind.TheVariants.{InputTouched, OutputWritten}
 use Rattle.word.specs.declared.word.Word.{Word}
 use Rattle.flights.proofs.Stores.{at_other, at_agree}
-use Rattle.rooms.proofs.Areas.{or_else-none, no_mark, none_found}
+use Rattle.rooms.proofs.Areas.{neither, no_mark, none_found}
 
 -- words that are read and written, none of them in an open area of the other kind
 pub record Untouched (o : Open) (rs ws : List ℕ) : Type 0 where
@@ -21,7 +21,7 @@ pub record Untouched (o : Open) (rs ws : List ℕ) : Type 0 where
 pub untouched : (o : Open) (rs ws : List ℕ) (l : ℕ) → touch_mark o rs ws l ≡ None → Untouched o rs ws
 unfolding touch_mark
 untouched o rs ws l h =
-    let p = or_else-none (mark_for InputTouched l (first_unit units (λ u. touches_input rs ws (o u)))) (mark_for OutputWritten l (first_unit units (λ u. writes_output ws (o u)))) h in
+    let p = neither (mark_for InputTouched l (first_unit units (λ u. touches_input rs ws (o u)))) (mark_for OutputWritten l (first_unit units (λ u. writes_output ws (o u)))) h in
     record {
       input = none_found units (λ u. touches_input rs ws (o u)) (no_mark InputTouched l _ p.0);
       output = none_found units (λ u. writes_output ws (o u)) (no_mark OutputWritten l _ p.1);

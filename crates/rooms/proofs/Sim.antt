@@ -11,7 +11,8 @@ use Rattle.flights.specs.Flights.Drained.{clear, broke}
 use Rattle.flights.specs.Flights.Next.{nothing}
 use Rattle.machine.specs.Steps.{State, Step, moved, acknowledged, unsettled, j_after, j_word, worked, tested, paused, issued, issued_if, halted as has_halted, act, obeys, begun, step_in, step}
 use Rattle.flights.specs.Issues.{flight_if}
-use Rattle.flights.specs.Watch.{or_else, first_unit, touch_mark, meet_mark, j_mark}
+use Rattle.std.specs.Option.{option_or}
+use Rattle.flights.specs.Watch.{first_unit, touch_mark, meet_mark, j_mark}
 use Rattle.machine.specs.declared.counts.Counts.{Counts}
 use Rattle.flights.specs.declared.fault.Fault.{Fault}
 use Rattle.flights.specs.declared.flight.Flight.{Flight}
@@ -160,15 +161,15 @@ module _ (s : State) (c : Core) (e : Eager) (h : Pre s c e) where
         (subst (λ k. Each (Sim e (eager_issued_if e t u.number g (d.units u.number) k)) (issued s now t u g a y (clear d))) (sym found)
         (go low free (meet_mark e.opens u.number y y.location) refl))
       where
-        met : (k : Option Mark) → meet_mark e.opens u.number y y.location ≡ k → or_else a (meet_mark (opens d) u.number y y.location) ≡ or_else a k
-        met k i = ap (λ o. or_else a (meet_mark o u.number y y.location)) fate.opened ∙ ap (or_else a) i
+        met : (k : Option Mark) → meet_mark e.opens u.number y y.location ≡ k → option_or a (meet_mark (opens d) u.number y y.location) ≡ option_or a k
+        met k i = ap (λ o. option_or a (meet_mark o u.number y y.location)) fate.opened ∙ ap (option_or a) i
 
         go : u.number < units → Free d e u.number → (k : Option Mark) → meet_mark e.opens u.number y y.location ≡ k → Each (Sim e (eager_issued e t u.number g (d.units u.number) y k)) (issued s now t u g a y (clear d))
         go low free (Some k) i = λ told. astray (inr (subst Marked (sym (met (Some k) i)) (mark_made a k))) (inr refl)
         go low free None i = λ told. working (record {
           core = issue_rel d e fate u.number free y _ low i t g;
           j = inl l;
-          mark = met None i ∙ ap (λ a. or_else a None) unmarked;
+          mark = met None i ∙ ap (λ a. option_or a None) unmarked;
           phase = alike;
           time = ap (λ n. n + t) h.time;
           steps = ap suc h.steps;
@@ -269,7 +270,7 @@ module _ (s : State) (c : Core) (e : Eager) (h : Pre s c e) where
           → (l : Option Mark) → touch_mark e.opens (reads_of p e.memory) (writes_of p e.memory) e.registers.location ≡ l
           → (b : Bool) → (not s.j.settled && takes_j p c.memory) ≡ b
           → (d : Bool) → (not e.j.settled && takes_j p e.memory) ≡ d
-          → Each (Sim e (eager_obeys e p l d)) (act s c (memory_after p (j_word s.j) c.memory) (or_else s.mark (or_else k (cond b (Some (j_mark c.registers.location)) None))) (outcome_of p c.memory))
+          → Each (Sim e (eager_obeys e p l d)) (act s c (memory_after p (j_word s.j) c.memory) (option_or s.mark (option_or k (cond b (Some (j_mark c.registers.location)) None))) (outcome_of p c.memory))
       go (Some k) i (Some l) j b m d n = each_astray e (eager_obeys e p (Some l) d) _ (bad_act s c (memory_after p (j_word s.j) c.memory) _ (outcome_of p c.memory) (mark_made s.mark k)) (inr refl)
       go (Some k) i None j b m d n =
           let f = same_back c e h.rel tj ej p (clear_here j) in
@@ -282,8 +283,8 @@ module _ (s : State) (c : Core) (e : Eager) (h : Pre s c e) where
       go None i None j false m true n = absurd (false≢true (sym m ∙ (taken (same c e h.rel tj ej p (clear_there i)).takes).0 ∙ n))
       go None i None j false m false n =
           let f = same c e h.rel (j_word s.j) (j_word e.j) p (clear_there i) in
-          subst (λ z. Each (Sim e (eager_act e (memory_after p (j_word e.j) e.memory) z)) (act s c (memory_after p (j_word s.j) c.memory) (or_else s.mark None) (outcome_of p c.memory))) f.outcome
-          (sim_act (or_else s.mark None) (ap (λ a. or_else a None) h.mark) (memory_after p (j_word s.j) c.memory) (memory_after p (j_word e.j) e.memory)
+          subst (λ z. Each (Sim e (eager_act e (memory_after p (j_word e.j) e.memory) z)) (act s c (memory_after p (j_word s.j) c.memory) (option_or s.mark None) (outcome_of p c.memory))) f.outcome
+          (sim_act (option_or s.mark None) (ap (λ a. option_or a None) h.mark) (memory_after p (j_word s.j) c.memory) (memory_after p (j_word e.j) e.memory)
           (λ t w. record {
             registers = refl;
             memory = f.memory ((taken f.takes).1 m);

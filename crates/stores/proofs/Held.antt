@@ -7,7 +7,7 @@ use Rattle.std.proofs.lemmas.Bool.Decides.{nat_tests}
 use Rattle.std.proofs.lemmas.Grind.{get_or-set_at}
 use Rattle.std.proofs.lemmas.List.{get_or-set_other, get_or_default}
 use mathlib.Core.Path.{fun_ext}
-use Rattle.rack.specs.Transfers.{Answer, After, on_unit, updated}
+use Rattle.rack.specs.Transfers.{Leaves, Answer, After, on_unit, updated}
 use Rattle.rack.specs.Units.{Holding, Holdings, kind_of, text_of_unit}
 use Rattle.rack.specs.declared.fault.UnitFault.{UnitFault}
 use Rattle.rack.specs.declared.fault.UnitFault.TheVariants.{Absent}
@@ -15,7 +15,7 @@ use Rattle.rack.specs.declared.kind.Kind.{Kind}
 use Rattle.rack.specs.declared.kind.Kind.TheVariants as kind
 use Rattle.rack.specs.declared.request.Request.{Request}
 use Rattle.rack.specs.declared.unit.Unit.{Unit}
-use Rattle.stores.specs.Stores.{tape_holding, disk_holding, holds_of, times_of, tells_of, Leaves}
+use Rattle.stores.specs.Stores.{tape_holding, disk_holding, holds_of, times_of, tells_of}
 use Rattle.stores.specs.declared.disk.Disk.{Disk}
 use Rattle.stores.specs.declared.stores.Stores.{Stores}
 use Rattle.stores.specs.declared.tape.Tape.{Tape}

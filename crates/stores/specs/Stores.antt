@@ -1,9 +1,7 @@
 -- What tapes and disks in memory hold.
-use Rattle.std.specs.Prelude.{◌≡◌, ℕ, ◌-◌, cond, List, map, length, None, Ok, Err, Option, Result, nat_lt, slice_index_or, ⊤}
+use Rattle.std.specs.Prelude.{ℕ, ◌-◌, cond, List, map, length, None, Option, nat_lt, slice_index_or}
 use Rattle.std.specs.Option.{option_map, option_map_or}
-use Rattle.rack.specs.Transfers.{Answer}
 use Rattle.rack.specs.Units.{Holding, Holdings}
-use Rattle.rack.specs.declared.fault.UnitFault.{UnitFault}
 use Rattle.rack.specs.declared.request.Request.{Request}
 use Rattle.stores.specs.Blocks.{words_in}
 use Rattle.stores.specs.declared.tape.Tape.{Tape}
@@ -17,13 +15,6 @@ tape_holding t = record { capacity = t.capacity; blocks = map words_in t.blocks.
 -- what a disk holds: it is full, and has no position
 abbrev pub disk_holding : Disk → Holding
 disk_holding d = record { capacity = length d.blocks.items; blocks = map words_in d.blocks.items; position = 0; ring = d.ring }
-
--- what a call leaves of one holding
-abbrev pub Leaves : Answer → Holding → Holding → Result ⊤ UnitFault → Type 0
-Leaves (Ok e) old new (Ok x) = new ≡ e.holding
-Leaves (Ok e) old new (Err f) = ⊥
-Leaves (Err f) old new (Ok x) = ⊥
-Leaves (Err f) old new (Err g) = (g ≡ f) × (new ≡ old)
 
 -- what a unit of some list of units holds
 abbrev pub held : {X : Type 0} → (X → Holding) → List (Option X) → ℕ → Option Holding

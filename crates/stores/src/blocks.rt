@@ -21,7 +21,7 @@ impl Block {
 }
 
 // The words of a block, or why there are none.
-pub fn read(blocks: &[Option<Block>], at: u16, unit: Unit) -> Result<&[Word; 100], UnitFault>
+pub(crate) fn read(blocks: &[Option<Block>], at: u16, unit: Unit) -> Result<&[Word; 100], UnitFault>
     ensures words { (h : Holding) → MatchResult result
         (λ ws. read_block unit at h (slice_get (map words_in blocks.now) at) ≡ Ok (record { holding = h; block = ws.now }))
         (λ f. read_block unit at h (slice_get (map words_in blocks.now) at) ≡ Err f) }
@@ -36,7 +36,7 @@ pub fn read(blocks: &[Option<Block>], at: u16, unit: Unit) -> Result<&[Word; 100
 
 // Writes a block in place of another, or after the last where there is room for one more.
 #[tactic(auto, using(crate::proofs::Written::written))]
-pub fn write(blocks: &mut Vec<Option<Block>>, at: u16, block: Block)
+pub(crate) fn write(blocks: &mut Vec<Option<Block>>, at: u16, block: Block)
     requires next { at ≤ vec_len blocks.old }
     requires room { at < vec_capacity blocks.old }
     ensures items { map words_in blocks.new.items ≡ written_at at block.words (map words_in blocks.old.items) }

@@ -13,7 +13,7 @@ use std::alloc::{AllocError, Global};
 impl Tape {
     // The tape of some contents.
     #[tactic(auto, using(crate::proofs::Made::tape_allowed))]
-    pub fn new(heap: Global, contents: Contents<'_>) -> Result<Tape, NotMade>
+    pub(crate) fn new(heap: Global, contents: Contents<'_>) -> Result<Tape, NotMade>
         ensures { MatchResult result
             (λ t. (tape_holding t ≡ holding_in contents.entry) × (t.time ≡ contents.entry.time))
             (Refuses (Sound tape_kind (holding_in contents.entry))) }
@@ -42,7 +42,7 @@ impl Tape {
 impl Disk {
     // The disk of some contents.
     #[tactic(auto, using(crate::proofs::Made::disk_allowed))]
-    pub fn new(heap: Global, contents: Contents<'_>) -> Result<Disk, NotMade>
+    pub(crate) fn new(heap: Global, contents: Contents<'_>) -> Result<Disk, NotMade>
         ensures { MatchResult result
             (λ d. (disk_holding d ≡ holding_in contents.entry) × (d.time ≡ contents.entry.time))
             (Refuses (Sound disk_kind (holding_in contents.entry))) }

@@ -11,7 +11,7 @@ pub enum Place {
 
 impl Place {
     // Where a unit is; none where its number is no tape's or disk's.
-    pub fn of(unit: Unit) -> Option<Place>
+    pub(crate) fn of(unit: Unit) -> Option<Place>
         ensures { Stands unit.number result }
     {
         let number = usize::from(unit.number);

@@ -1,8 +1,8 @@
 ghost use Rattle.std.specs.Prelude.{◌≡◌, length};
-ghost use Rattle.rack.specs.Transfers.{read_next, write_next, if_ring, moved_to, at_position, shifted_to, received, block_in};
+ghost use Rattle.rack.specs.Transfers.{Leaves, read_next, write_next, if_ring, moved_to, at_position, shifted_to, received, block_in};
 ghost use Rattle.rack.specs.Units.{standing_of};
 ghost use Rattle.rack.specs.declared.kind.Kind.TheVariants.{Tape as tape_kind};
-ghost use Rattle.stores.specs.Stores.{tape_holding, Leaves};
+ghost use Rattle.stores.specs.Stores.{tape_holding};
 
 use crate::block::Block;
 use crate::blocks::{read, write};
@@ -12,7 +12,7 @@ use word::{Sign, Word};
 
 impl Tape {
     // How the tape stands.
-    pub fn standing(&self) -> Standing
+    pub(crate) fn standing(&self) -> Standing
         ensures { result ≡ standing_of (tape_holding self.now) }
     {
         Standing {
@@ -24,7 +24,7 @@ impl Tape {
     }
 
     // Reads the next block, after which the position is one more.
-    pub fn take(&mut self, unit: Unit, area: &mut [Word]) -> Result<(), UnitFault>
+    pub(crate) fn take(&mut self, unit: Unit, area: &mut [Word]) -> Result<(), UnitFault>
         ensures tape { Leaves (read_next unit (tape_holding self.old)) (tape_holding self.old) (tape_holding self.new) result }
         ensures area { area.new ≡ received (read_next unit (tape_holding self.old)) area.old }
         ensures time { self.new.time ≡ self.old.time }
@@ -35,7 +35,7 @@ impl Tape {
     }
 
     // Writes the next block, or one more, after which the position is one more.
-    pub fn put(&mut self, unit: Unit, area: &[Word]) -> Result<(), UnitFault>
+    pub(crate) fn put(&mut self, unit: Unit, area: &[Word]) -> Result<(), UnitFault>
         ensures tape { Leaves (if_ring unit self.old.ring (write_next unit (block_in area.now tape_kind) (tape_holding self.old))) (tape_holding self.old) (tape_holding self.new) result }
         ensures time { self.new.time ≡ self.old.time }
     {
@@ -53,7 +53,7 @@ impl Tape {
     }
 
     // Moves by a number, but not past an end; 0 moves to the beginning.
-    pub fn shift(&mut self, by: Word)
+    pub(crate) fn shift(&mut self, by: Word)
         ensures tape { let h = tape_holding self.old in tape_holding self.new ≡ at_position (shifted_to by h.position (length h.blocks)) h }
         ensures time { self.new.time ≡ self.old.time }
     {

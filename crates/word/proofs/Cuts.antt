@@ -83,7 +83,7 @@ module _ (f : Field) (v m : ℕ) where
   pub stored_small : packed (stored_bytes f.left f.right (unpacked 5 v) (unpacked 5 m)) < 2 ^ 30
   stored_small = rw stored_length at (packed_lt (stored_bytes f.left f.right (unpacked 5 v) (unpacked 5 m)) stored_are_bytes)
 
-  stored_law : Stored f.left f.right (unpacked 5 v) (unpacked 5 m) (stored_bytes f.left f.right (unpacked 5 v) (unpacked 5 m))
+  pub stored_law : Stored f.left f.right (unpacked 5 v) (unpacked 5 m) (stored_bytes f.left f.right (unpacked 5 v) (unpacked 5 m))
   unfolding stored_bytes inside left middle end
   stored_law =
       let e = append_assoc left middle end in

@@ -1,3 +1,4 @@
 pub mod Bytes
 pub mod Same
 pub mod Cuts
+mod Wholes

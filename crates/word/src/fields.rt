@@ -1,4 +1,4 @@
-ghost use Rattle.std.specs.Prelude.{◌≡◌, ◌+◌, ◌-◌, ◌*◌, true};
+ghost use Rattle.std.specs.Prelude.{◌≡◌, ◌+◌, ◌-◌, ◌*◌, ◌==◌, ◌&&◌, true};
 ghost use Rattle.word.specs.Bytes.{packed, unpacked};
 ghost use Rattle.word.specs.Field.{before, width, is_field, Decodes, field_of, stored_in, read_bytes, stored_bytes, Stored};
 ghost use Rattle.word.specs.Word.{bytes_of};
@@ -39,11 +39,15 @@ impl From<Field> for u8 {
 
 impl Word {
     // The field's bytes at the right end, plus unless byte 0 is in the field.
-    #[tactic(auto, using(crate::proofs::Cuts::read_back))]
+    #[tactic(auto, using(crate::proofs::Cuts::read_back, crate::proofs::Wholes::whole_read, crate::proofs::Wholes::whole_bytes))]
+    #[inline(always)]
     pub fn field(self, field: Field) -> Word
         ensures word { result ≡ field_of field self }
         ensures bytes { bytes_of result ≡ read_bytes field.left field.right (bytes_of self) }
     {
+        if field.is_whole() {
+            return self;
+        }
         let sign = if field.left == 0 {
             self.sign
         } else {
@@ -53,10 +57,15 @@ impl Word {
     }
 
     // The word with the field filled from the register's right end, the sign only if byte 0 is in the field.
+    #[tactic(auto, using(crate::proofs::Wholes::whole_stored, crate::proofs::Wholes::whole_law))]
+    #[inline(always)]
     pub fn with_field(self, field: Field, register: Word) -> Word
         ensures word { result ≡ stored_in field register self }
         ensures bytes { Stored field.left field.right (bytes_of register) (bytes_of self) (bytes_of result) }
     {
+        if field.is_whole() {
+            return register;
+        }
         let sign = if field.left == 0 {
             register.sign
         } else {
@@ -67,6 +76,14 @@ impl Word {
 }
 
 impl Field {
+    // Whether it is the whole word, as in most instructions.
+    #[inline(always)]
+    fn is_whole(self) -> bool
+        ensures { result ≡ (self.left == 0 && self.right == 5) }
+    {
+        self.left == 0 && self.right == 5
+    }
+
     // How many bytes stand before the field, the sign not counted.
     fn before(self) -> u32
         ensures { result ≡ before self.left }
@@ -90,6 +107,7 @@ impl Field {
 }
 
 // The number of the field's bytes.
+#[inline(never)]
 fn cut(word: Word, field: Field) -> u64
     ensures { result ≡ packed (read_bytes field.left field.right (bytes_of word)) }
 {
@@ -97,6 +115,7 @@ fn cut(word: Word, field: Field) -> u64
 }
 
 // The number of the word's bytes with the register's right end in the field.
+#[inline(never)]
 fn splice(word: Word, field: Field, register: Word) -> u64
     ensures value { result ≡ packed (stored_bytes field.left field.right (bytes_of register) (bytes_of word)) }
     ensures bytes { Stored field.left field.right (bytes_of register) (bytes_of word) (unpacked 5 result) }

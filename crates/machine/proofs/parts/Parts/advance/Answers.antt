@@ -1,11 +1,12 @@
-use Rattle.std.proofs.Common.{[], ◌∷◌, refl, subst, ◌∙◌}
+use Rattle.std.proofs.Common.{[], ◌∷◌, Ok, refl, sym, ap, subst, ◌∙◌}
 use Rattle.std.proofs.lemmas.Result.{err_from_is_err_and}
-use Rattle.cpu.specs.Executed.{Done, cells}
+use Rattle.cpu.specs.Executed.{Done, cells, said}
 use Rattle.cpu.specs.Instructions.{instruction}
 use Rattle.flights.specs.Stands.{core_in}
 use Rattle.machine.specs.Acts.{Came}
 use Rattle.machine.specs.Model.{stands}
 use Rattle.machine.specs.Runs.{Comes}
+use Rattle.machine.specs.Steps.{act}
 use Rattle.machine.specs.declared.phase.Phase.TheVariants.{Faulted}
 use Rattle.machine.proofs.Stepping.{executed, here, low_drained, rejected, step_broke, step_clear}
 use Rattle.machine.proofs.parts.Parts.advance.Goals as goal
@@ -55,5 +56,21 @@ returns g c =
     let d = core_in m.processor.registers c.catch_up.new.memory (h c.catch_up.new.rack) c.catch_up.new.self.states in
     let a = step_clear s c.requires.runs d (c.in_ok-catch_up.ensures.core m.processor.registers) in
     let f = subst (λ j. Done (instruction m.processor.registers) (m.processor.registers.location ∷ []) j m.processor.registers (cells c.catch_up.new.memory) c.execute.new.self.registers (cells c.execute.new.self.memory) x) c.word.ensures c.in_ok-step.ensures.executed in
-    let e = executed s d c.execute.new.self.registers (cells c.execute.new.self.memory) x f c.watch-mark.result c.watch-mark.ensures in
+    let e = executed s d c.execute.new.self.registers (cells c.execute.new.self.memory) x f c.watch-mark-2.result c.watch-mark-2.ensures in
     subst (λ z. Came h g.R.Rack.tells z c.act.result (stands h c.act.new.self)) (e ∙ a) c.act.ensures
+
+pub returns-in-Goes : goal.returns-in-Goes
+returns-in-Goes g c =
+    let m = c.args.self.now in
+    let h = g.R.Rack.holds in
+    let s = stands h m in
+    let x = c.in_ok-step.step in
+    let r = c.execute.new.self.registers in
+    let n = cells c.execute.new.self.memory in
+    let d = core_in m.processor.registers c.catch_up.new.memory (h c.catch_up.new.rack) c.catch_up.new.self.states in
+    let k = record d { registers = r; memory = n } in
+    let a = step_clear s c.requires.runs d (c.in_ok-catch_up.ensures.core m.processor.registers) in
+    let f = subst (λ j. Done (instruction m.processor.registers) (m.processor.registers.location ∷ []) j m.processor.registers (cells c.catch_up.new.memory) r n x) c.word.ensures c.in_ok-step.ensures.executed in
+    let e = executed s d r n x f c.watch-mark.result c.watch-mark.ensures in
+    let b = ap (λ o. act (record s { core = k }) k n c.watch-mark.result (said x.time o r)) (sym c.in-Goes.is) in
+    subst (λ z. Came h g.R.Rack.tells z (Ok (tt {0})) (stands h c.go.new.self)) (b ∙ e ∙ a) c.go.ensures
