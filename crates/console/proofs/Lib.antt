@@ -1,2 +1,3 @@
-mod Loading
-mod Making
+pub mod Fronts
+pub mod Loading
+pub mod Making

@@ -1,15 +1,17 @@
 -- Lists of calls, and two rooms that begin alike.
 use Rattle.std.proofs.Common.{◌≡◌, ℕ, ◌+◌, ◌<◌, List, length, get_or, drop, sym, refl, subst, arith}
 use Rattle.std.proofs.lemmas.List.{drop_more, drop_all}
+use Rattle.console.proofs.Fronts.{sheets_of}
 use Rattle.console.specs.Calls.{loaded_with}
+use Rattle.console.specs.Rooms.{OneDeck}
 use Rattle.machine.specs.Runs.{Made, Session}
 use Rattle.machine.specs.Steps.{State}
 use Rattle.machine.specs.declared.call.Call.{Call}
 use Rattle.mixal.specs.Ends.{Assembled}
-use Rattle.rack.specs.Units.{Holdings, EqualUnits}
+use Rattle.rack.specs.Units.{Holdings}
 use Rattle.rack.specs.declared.request.Request.{Request}
 use Rattle.rooms.proofs.Rooms.{two_rooms}
-use Rattle.rooms.specs.Rooms.{Both, Fresh}
+use Rattle.rooms.specs.Rooms.{Fresh}
 
 -- what the calls from the i-th on lead to
 module _ {R : Type 0} (holds : R → Holdings) (tells : R → Request → ℕ) where
@@ -26,7 +28,10 @@ fresh_loaded : (a : Assembled) (h : Holdings) → Fresh (loaded_with a h)
 fresh_loaded a h = record { idle = λ u. refl; clock = refl; working_time = refl; waiting = refl; told = refl; granted = refl; working_steps = refl; waiting_steps = refl; mark = refl; phase = refl }
 
 -- the law, for a deck in two rooms whose units begin equal
-pub rooms_of : {R S : Type 0} (holds : R → Holdings) (tells : R → Request → ℕ) (holds′ : S → Holdings) (tells′ : S → Request → ℕ) (a : Assembled) (g h : Holdings) (cs ds : List Call) (s t : State) → EqualUnits g h → Session holds tells cs (loaded_with a g) s → Session holds′ tells′ ds (loaded_with a h) t → Both s t
-rooms_of holds tells holds′ tells′ a g h cs ds s t e p q =
+pub one_deck : {R S : Type 0} (holds : R → Holdings) (tells : R → Request → ℕ) (holds′ : S → Holdings) (tells′ : S → Request → ℕ) → OneDeck holds tells holds′ tells′
+one_deck holds tells holds′ tells′ a g h cs ds s t e p q =
+    let both =
     two_rooms holds tells holds′ tells′ (loaded_with a g) s t cs ds (fresh_loaded a g) p
     (subst (λ f. Session holds′ tells′ ds (loaded_with a f) t) (λ i u. sym (e u) i) q)
+    in
+    record { both = both; sheets = sheets_of s t both }

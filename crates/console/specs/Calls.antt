@@ -2,6 +2,7 @@
 use Rattle.std.specs.Prelude.{◌≡◌, ℕ, ◌<◌, cond, List, ◌++◌, length, drop, Some, None, Ok, Err, Option, Result, nat_lt, ◌≢◌}
 use Rattle.std.specs.Option.{unwrap_or}
 use Rattle.cpu.specs.Programs.{Memory}
+use Rattle.flights.specs.declared.fault.Fault.{Fault}
 use Rattle.machine.specs.Model.{model, fresh}
 use Rattle.machine.specs.Runs.{status_of}
 use Rattle.machine.specs.Steps.{State}
@@ -11,6 +12,9 @@ use Rattle.machine.specs.declared.phase.RunRefusal.{RunRefusal}
 use Rattle.machine.specs.declared.status.Status.{Status}
 use Rattle.mixal.specs.Ends.{Assembled}
 use Rattle.mixal.specs.Image.{last_at}
+use Rattle.mixal.specs.Model.{assembled}
+use Rattle.mixal.specs.declared.cause.Rejection.{Rejection}
+use Rattle.mixal.specs.declared.deck.Deck.{Deck}
 use Rattle.rack.specs.Units.{Holdings}
 use Rattle.sheet.specs.Sheet.{sheet_of}
 use Rattle.word.specs.declared.sign.Sign.TheVariants.{Plus}
@@ -22,6 +26,14 @@ use Rattle.console.specs.declared.fault.JobFault.TheVariants.{Rejected, Machine 
 use Rattle.console.specs.declared.loaded.Loaded.{Loaded}
 use Rattle.console.specs.declared.room.Room.{Room}
 use Rattle.console.specs.declared.room.Room.TheVariants.{Open, Closed as Shut}
+
+-- what a try at assembling gives: the defined deck or its rejection, unless memory is wanting
+abbrev pub Assembles : Result Assembled Rejection → Result Deck JobFault → Type 0
+Assembles (Ok a) (Ok d) = assembled d ≡ a
+Assembles (Ok a) (Err f) = f ≡ NoMemory
+Assembles (Err p) (Ok d) = ⊥
+Assembles (Err p) (Err (Rejected q)) = q ≡ p
+Assembles (Err p) (Err f) = f ≡ NoMemory
 
 -- the memory of a deck: at each location the word of its last line for it, else +0
 abbrev pub memory_of : Assembled → Memory
@@ -42,14 +54,20 @@ abbrev pub room_model : {R : Type 0} → (R → Holdings) → Room R → State
 room_model holds (Open l) = loaded_model holds l
 room_model holds (Shut c) = closed_model holds c
 
--- the answer to a run, by how the machine then stands: a fault is the answer where it came to one
-abbrev pub run_answer_in : Phase → Status → Result Status JobFault
-run_answer_in Running s = Ok s
-run_answer_in Halted s = Ok s
-run_answer_in (Faulted f) s = Err (AtFault f)
+-- how a machine stands, or the fault that it is at
+abbrev pub unless_faulted : Phase → Status → Result Status Fault
+unless_faulted Running s = Ok s
+unless_faulted Halted s = Ok s
+unless_faulted (Faulted f) s = Err f
 
+-- a machine's fault, carried whole in a job's
+abbrev pub carried : Result Status Fault → Result Status JobFault
+carried (Ok s) = Ok s
+carried (Err f) = Err (AtFault f)
+
+-- the answer to a run: how the machine then stands, or the fault that it is at; or why the run was refused
 abbrev pub run_answer : Option RunRefusal → State → Result Status JobFault
-run_answer None t = run_answer_in t.phase (status_of t)
+run_answer None t = carried (unless_faulted t.phase (status_of t))
 run_answer (Some r) t = Err (Refused r)
 
 -- the word at a location, if that is in memory

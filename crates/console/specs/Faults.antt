@@ -4,8 +4,15 @@ use Rattle.flights.specs.Faults.{fault_number, told_of}
 use Rattle.lines.specs.Buffer.{too_long_number}
 use Rattle.machine.specs.Runs.{refusal_number}
 use Rattle.mixal.specs.Causes.{number_of}
+use Rattle.mixal.specs.declared.cause.Refusal.{Refusal}
+use Rattle.mixal.specs.declared.cause.Refusal.TheVariants.{Rejected as NoDeck, NoMemory as NoRoom}
 use Rattle.console.specs.declared.fault.JobFault.{JobFault}
 use Rattle.console.specs.declared.fault.JobFault.TheVariants.{Rejected, Machine, Outside, Refused, NotHalted, TooLong, NoMemory}
+
+-- why there is no deck, as a job's fault
+abbrev pub fault_of : Refusal → JobFault
+fault_of (NoDeck p) = Rejected p
+fault_of NoRoom = NoMemory
 
 -- the number of a job's fault; want of memory has none
 abbrev pub job_number : JobFault → Option ℕ

@@ -1,5 +1,6 @@
 ghost use Rattle.std.specs.Prelude.{◌≡◌};
 ghost use Rattle.console.specs.Calls.{loaded_model, loaded_with, room_model};
+ghost use Rattle.console.specs.Rooms.{OneDeck, SheetsAgree};
 ghost use Rattle.machine.specs.Runs.{Made, Session};
 ghost use Rattle.mixal.specs.Model.{assembled};
 ghost use Rattle.rack.specs.Units.{EqualUnits};
@@ -22,10 +23,24 @@ pub fn two_rooms<R: Rack, S: Rack>(
     ensures first { Session R.holds R.tells first_calls.now (loaded_with (assembled deck.now) (R.holds first)) (room_model R.holds result.0) }
     ensures second { Session S.holds S.tells second_calls.now (loaded_with (assembled deck.now) (S.holds second)) (room_model S.holds result.1) }
     ensures both { EqualUnits (R.holds first) (S.holds second) → Both (room_model R.holds result.0) (room_model S.holds result.1) }
+    ensures sheets { EqualUnits (R.holds first) (S.holds second) → SheetsAgree (room_model R.holds result.0) (room_model S.holds result.1) }
 {
-    let first = Loaded::start(deck, first).make(first_calls);
-    let second = Loaded::start(deck, second).make(second_calls);
+    let first = in_room(deck, first, first_calls);
+    let second = in_room(deck, second, second_calls);
     (first, second)
+}
+
+// The same for calls that are made one by one, by whoever loads the deck: each call's own contract says that it
+// is a call of a `Session`.
+pub fn calls_agree<R: Rack, S: Rack>()
+    ensures { OneDeck R.holds R.tells S.holds S.tells }
+{}
+
+// A deck in a room, and the calls that are made there.
+fn in_room<R: Rack>(deck: &Deck, rack: R, calls: &[Call]) -> Room<R>
+    ensures { Session R.holds R.tells calls.now (loaded_with (assembled deck.now) (R.holds rack)) (room_model R.holds result) }
+{
+    Loaded::start(deck, rack).make(calls)
 }
 
 impl<R: Rack> Loaded<R> {

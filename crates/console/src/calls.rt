@@ -1,12 +1,13 @@
 ghost use Rattle.std.specs.Prelude.{◌≡◌, ◌<◌};
 ghost use Rattle.cpu.specs.Executed.{cells};
-ghost use Rattle.console.specs.Calls.{loaded_model, loaded_with, closed_model, run_answer, peeked, memory_of, word_in, Closes};
+ghost use Rattle.console.specs.Calls.{loaded_model, loaded_with, closed_model, run_answer, peeked, memory_of, unless_faulted, word_in, Closes};
 ghost use Rattle.machine.specs.Runs.{Ran, refused, status_of};
 ghost use Rattle.mixal.specs.Model.{assembled};
 
 use crate::closed::Closed;
 use crate::fault::JobFault;
 use crate::loaded::Loaded;
+use flights::Fault;
 use machine::{Machine, Phase, Status};
 use mixal::Deck;
 use rack::Rack;
@@ -35,10 +36,7 @@ impl<R: Rack> Loaded<R> {
         ensures answer { result ≡ run_answer (refused budget (loaded_model R.holds self.old)) (loaded_model R.holds self.new) }
     {
         let status = self.machine.run(budget)?;
-        if let Phase::Faulted(fault) = status.phase {
-            return Err(JobFault::from(fault));
-        }
-        Ok(status)
+        Ok(unless_faulted(status)?)
     }
 
     // The word at a location.
@@ -69,8 +67,17 @@ impl<R: Rack> Loaded<R> {
     }
 }
 
-// The memory of a deck.
+// How a machine stands, or the fault that it is at.
+fn unless_faulted(status: Status) -> Result<Status, Fault>
+    ensures { result ≡ unless_faulted status.phase status }
+{
+    match status.phase {
+        Phase::Faulted(fault) => Err(fault),
+        Phase::Running | Phase::Halted => Ok(status),
+    }
+}
 
+// The memory of a deck.
 fn memory(deck: &Deck) -> [Word; 4000]
     ensures { cells result ≡ memory_of (assembled deck.now) }
 {

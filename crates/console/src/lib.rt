@@ -5,14 +5,16 @@
 mod both_rooms;
 mod calls;
 mod closed;
+mod decks;
 mod fault;
 mod faults;
 mod loaded;
 mod room;
 mod sheets;
 
-pub use both_rooms::two_rooms;
+pub use both_rooms::{calls_agree, two_rooms};
 pub use closed::Closed;
+pub use decks::assemble;
 pub use fault::JobFault;
 pub use loaded::Loaded;
 pub use room::Room;

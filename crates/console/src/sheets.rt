@@ -1,12 +1,12 @@
 ghost use Rattle.std.specs.Prelude.{◌≡◌, IfOk};
 ghost use Rattle.console.specs.Calls.{closed_model, SheetGiven, SheetWritten};
-ghost use Rattle.sheet.specs.Sheet.{sheet_of};
+ghost use Rattle.sheet.specs.Sheet.{front_of, mark_line, sheet_of};
 
 use crate::closed::Closed;
 use crate::fault::JobFault;
 use lines::copy_out;
 use rack::Rack;
-use sheet::sheet_text;
+use sheet::{front_text, mark_line, sheet_text};
 use std::alloc::{AllocError, Global};
 
 impl<R: Rack + Drop> Closed<R> {
@@ -28,6 +28,20 @@ impl<R: Rack> Closed<R> {
         ensures { IfOk result (λ v. v.items ≡ sheet_of (closed_model R.holds self.now)) }
     {
         sheet_text(heap, self.machine.parts())
+    }
+
+    // The sheet but for the clock's line.
+    pub fn front(&self, heap: Global) -> Result<Vec<u8>, AllocError>
+        ensures { IfOk result (λ v. v.items ≡ front_of (closed_model R.holds self.now)) }
+    {
+        front_text(heap, self.machine.parts())
+    }
+
+    // Whether the watch vouches for the deck, or its mark.
+    pub fn verdict(&self, heap: Global) -> Result<Vec<u8>, AllocError>
+        ensures { IfOk result (λ v. v.items ≡ mark_line (closed_model R.holds self.now).mark) }
+    {
+        mark_line(heap, self.machine.parts().mark)
     }
 }
 

@@ -27,7 +27,6 @@ of_answer P text (Err e) h law = tt
 pub lawful : (text : List ℕ) (r : Result Deck Refusal) → Answers r (deck_of text) → Lawful text r
 lawful text r h =
     record {
-      result = h;
       rejections = rejections (cards_of text);
       words = of_answer (Words (cards_of text)) text r h (words (cards_of text));
       symbols = of_answer (Defined (cards_of text)) text r h (definitions (cards_of text));

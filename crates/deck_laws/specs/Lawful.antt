@@ -1,18 +1,16 @@
--- What is promised of the answer to a deck's text.
+-- What is promised of the answer to a deck's text, beside which answer it is.
 use Rattle.std.specs.Prelude.{ℕ, List, IfOk, Result}
 use Rattle.card.specs.Lines.{cards_of}
 use Rattle.mixal.specs.Assembled.{deck_of}
-use Rattle.mixal.specs.Model.{Answers, assembled}
-use Rattle.mixal.specs.declared.cause.Refusal.{Refusal}
+use Rattle.mixal.specs.Model.{assembled}
 use Rattle.mixal.specs.declared.deck.Deck.{Deck}
 use Rattle.deck_laws.specs.After.{AfterEnd}
 use Rattle.deck_laws.specs.Defined.{Defined}
 use Rattle.deck_laws.specs.Rejections.{Rejections}
 use Rattle.deck_laws.specs.Words.{Words}
 
-pub record Lawful (text : List ℕ) (r : Result Deck Refusal) : Type 0 where
-  -- it is the defined deck or rejection, unless memory was wanting
-  pub result : Answers r (deck_of text)
+-- the laws of decks, whatever an answer tells in place of a deck
+pub record Lawful {E : Type 0} (text : List ℕ) (r : Result Deck E) : Type 0 where
   -- the first bad card is told, and on it the smallest number
   pub rejections : Rejections (cards_of text) (deck_of text)
   -- the lines are those of the cards, with the words assembled

@@ -2,14 +2,16 @@
 #![tactic(auto)]
 
 ghost use Rattle.deck_laws.specs.Lawful.{Lawful};
+ghost use Rattle.mixal.specs.Assembled.{deck_of};
+ghost use Rattle.mixal.specs.Model.{Answers};
 
 use mixal::{Deck, Refusal};
 use std::alloc::Global;
 
 // The deck of a text, or its rejection. What follows END is not looked at.
-#[tactic(auto, using(crate::proofs::Answered::lawful))]
 pub fn assemble(heap: Global, text: &[u8]) -> Result<Deck, Refusal>
-    ensures { Lawful text.now result }
+    ensures answer { Answers result (deck_of text.now) }
+    ensures laws { Lawful text.now result }
 {
     mixal::assemble(heap, text)
 }

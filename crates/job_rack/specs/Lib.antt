@@ -1,1 +1,3 @@
 pub mod Units
+pub mod Settings
+pub mod SetTimes

@@ -1,5 +1,5 @@
 -- The units of a job.
-use Rattle.std.specs.Prelude.{ℕ, ◌≤◌, Bool, true, false, cond, List, [], map, take, replicate, Some, None, ◌==◌, nat_lt}
+use Rattle.std.specs.Prelude.{ℕ, ◌*◌, ◌≤◌, Bool, true, false, cond, List, [], map, take, replicate, Some, None, ◌==◌, nat_lt}
 use Rattle.std.proofs.Common.{arith}
 use Rattle.card.specs.Text.{card_of}
 use Rattle.rack.specs.Units.{Holding, Holdings}
@@ -36,14 +36,20 @@ job_units cards u =
 abbrev pub job_time : ℕ → ℕ
 job_time u = cond (u == 8) 30 (cond (u == 16) 80 (cond (u == 17) 100 (cond (u == 18) 60 20)))
 
--- it is one that a rack may tell
-pub times_fit : (u : ℕ) → job_time u ≤ 65535
-times_fit u =
+-- it is one that a rack may tell, and so is its double
+small_time : (u : ℕ) → job_time u ≤ 100
+small_time u =
     at (u == 8) (u == 16) (u == 17) (u == 18)
   where
-    at : (a b c d : Bool) → cond a 30 (cond b 80 (cond c 100 (cond d 60 20))) ≤ 65535
+    at : (a b c d : Bool) → cond a 30 (cond b 80 (cond c 100 (cond d 60 20))) ≤ 100
     at true b c d = omega arith
     at false true c d = omega arith
     at false false true d = omega arith
     at false false false true = omega arith
     at false false false false = omega arith
+
+pub times_fit : (u : ℕ) → job_time u ≤ 65535
+times_fit u = let h = small_time u in omega arith
+
+pub double_fits : (u : ℕ) → 2 * job_time u ≤ 65535
+double_fits u = let h = small_time u in omega arith

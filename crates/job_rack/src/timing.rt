@@ -1,13 +1,12 @@
-use crate::times::JobTimes;
+use crate::timed::Timed;
+use crate::times::Times;
 use rack::{Rack, Request, Standing, Unit, UnitFault};
 use word::Word;
 
-impl<R: Rack> Rack for JobTimes<R> {
-    ghost use Rattle.job_rack.specs.Units.{job_time, times_fit};
-
+impl<T: Times, R: Rack> Rack for Timed<T, R> {
     ghost holds = { λ r. R.holds r.rack };
 
-    ghost tells = { λ r q. job_time q.unit.number };
+    ghost tells = { λ r q. T.told r.times q.unit.number };
 
     fn ask(&self, unit: Unit) -> Option<Standing> {
         self.rack.ask(unit)
@@ -18,13 +17,7 @@ impl<R: Rack> Rack for JobTimes<R> {
     }
 
     fn time(&mut self, request: Request) -> u16 {
-        match request.unit.number {
-            8 => 30,
-            16 => 80,
-            17 => 100,
-            18 => 60,
-            _ => 20,
-        }
+        self.times.time(request.unit)
     }
 
     fn take(&mut self, unit: Unit, block: u16, area: &mut [Word]) -> Result<(), UnitFault> {
@@ -39,7 +32,7 @@ impl<R: Rack> Rack for JobTimes<R> {
         self.rack.shift(unit, by)
     }
 
-    ghost bounded = { λ r q. times_fit q.unit.number };
+    ghost bounded = { λ r q. T.fit r.times q.unit.number };
 
     ghost sound = { λ r u. R.sound r.rack u };
 }

@@ -7,8 +7,13 @@ ghost use Rattle.rack.specs.declared.standing.Ring.TheVariants.{In};
 ghost use Rattle.rack.specs.Transfers.{updated};
 ghost use Rattle.stores.specs.Contents.{holding_in};
 ghost use Rattle.stores.specs.Stores.{holds_of};
+ghost use Rattle.rack.specs.declared.request.Request.{Request};
+ghost use Rattle.job_rack.specs.SetTimes.{set_times};
+ghost use Rattle.job_rack.specs.Settings.{time_set};
 ghost use Rattle.job_rack.specs.Units.{job_units, store_units};
 
+use crate::settings::Settings;
+use crate::timed::Timed;
 use crate::times::JobTimes;
 use paper::{CardReader, Device, Tray, first_cards};
 use rack::{Rack, Ring, Unit};
@@ -16,14 +21,43 @@ use racks::SideBySide;
 use std::alloc::{AllocError, Global};
 use stores::{Block, Contents, Stores};
 
-// The units of a job: stores, card reader, punch and printer side by side, with the times of a job.
-pub type JobRack<'t> = JobTimes<
-    SideBySide<Stores, SideBySide<CardReader<'t>, SideBySide<Tray, Tray>>>,
->;
+// The units of a job: stores, card reader, punch and printer side by side.
+type Units<'t> = SideBySide<Stores, SideBySide<CardReader<'t>, SideBySide<Tray, Tray>>>;
+
+// The units of a job, with the times of a job.
+pub type JobRack<'t> = Timed<JobTimes, Units<'t>>;
+
+// The units of a job, with times that are set.
+pub type RoomRack<'t> = Timed<Settings, Units<'t>>;
 
 // The units of a job that reads the first 200 cards of a text.
 pub fn job_rack<'t>(heap: Global, cards: &'t [u8]) -> Result<JobRack<'t>, AllocError>
     ensures { IfOk result (λ r. ⟦<JobRack<'t> as Rack>⟧.holds r ≡ job_units (cards_of cards.now)) }
+{
+    Ok(Timed {
+        times: JobTimes,
+        rack: units(heap, cards)?,
+    })
+}
+
+// The same with times that are set.
+pub fn room_rack<'t>(
+    heap: Global,
+    cards: &'t [u8],
+    times: Settings,
+) -> Result<RoomRack<'t>, AllocError>
+    ensures holds { IfOk result (λ r. ⟦<RoomRack<'t> as Rack>⟧.holds r ≡ job_units (cards_of cards.now)) }
+    ensures times { IfOk result (λ r. (q : Request) → ⟦<RoomRack<'t> as Rack>⟧.tells r q ≡ time_set (set_times times) q.unit.number) }
+{
+    Ok(Timed {
+        times,
+        rack: units(heap, cards)?,
+    })
+}
+
+// The units, with the reader before the first of the cards.
+fn units<'t>(heap: Global, cards: &'t [u8]) -> Result<Units<'t>, AllocError>
+    ensures { IfOk result (λ r. ⟦<Units<'t> as Rack>⟧.holds r ≡ job_units (cards_of cards.now)) }
 {
     let (data, _) = first_cards(cards, 200);
     let stores = job_stores(heap)?;
@@ -32,9 +66,7 @@ pub fn job_rack<'t>(heap: Global, cards: &'t [u8]) -> Result<JobRack<'t>, AllocE
     let printer = job_tray(heap, Device::Printer, 60)?;
     let trays = SideBySide::new(punch, 18, printer);
     let paper = SideBySide::new(reader, 17, trays);
-    Ok(JobTimes {
-        rack: SideBySide::new(stores, 16, paper),
-    })
+    Ok(SideBySide::new(stores, 16, paper))
 }
 
 // An empty tray.

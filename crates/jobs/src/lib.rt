@@ -5,4 +5,5 @@ mod faults;
 mod outcomes;
 mod reports;
 
+pub use outcomes::no_sheet;
 pub use reports::{deck_text, reject_line, report};

@@ -37,7 +37,7 @@ fn make_runs<R: Rack>(loaded: &mut Loaded<R>)
 }
 
 // The line of a machine that has not halted.
-fn no_sheet(heap: Global, phase: Phase) -> Result<Vec<u8>, AllocError>
+pub fn no_sheet(heap: Global, phase: Phase) -> Result<Vec<u8>, AllocError>
     ensures { (s : State) → phase ≢ Halted → IfOk result (λ v. v.items ≡ outcome_in s phase) }
 {
     match phase {

@@ -4,11 +4,10 @@ ghost use Rattle.jobs.specs.Jobs.{deck_text, job_text, printed, reject_line};
 ghost use Rattle.mixal.specs.Model.{assembled};
 
 use crate::outcomes::outcome_text;
-use console::Loaded;
-use deck_laws::assemble;
+use console::{JobFault, Loaded, assemble};
 use job_rack::job_rack;
 use listing::{listing_text, symbol_lines_text};
-use mixal::{Deck, Refusal, Rejection};
+use mixal::{Deck, Rejection};
 use paper::first_cards;
 use std::alloc::{AllocError, Global};
 
@@ -21,8 +20,9 @@ pub fn report(heap: Global, input: &[u8]) -> Result<Vec<u8>, AllocError>
             let (_, cards) = first_cards(input, deck.cards());
             job_text(heap, deck, cards)
         }
-        Err(Refusal::Rejected(rejection)) => reject_line(heap, rejection),
-        Err(Refusal::NoMemory) => Err(AllocError),
+        Err(JobFault::Rejected(rejection)) => reject_line(heap, rejection),
+        // Nothing else is wanting of a deck but memory.
+        Err(_) => Err(AllocError),
     }
 }
 

@@ -2,6 +2,7 @@
 // the run, or the deck's rejection.
 #![tactic(auto)]
 
+ghost use Rattle.std.specs.Prelude.{◌≡◌};
 ghost use Rattle.jobs.specs.Jobs.{printed};
 
 use std::alloc::{AllocError, Global};
@@ -12,14 +13,14 @@ use streams::{Report, filter, status};
 struct Job;
 
 impl Report for Job {
-    ghost text = { printed };
+    ghost says = { λ _ input out. out ≡ printed input };
 
-    fn report(heap: Global, input: &[u8]) -> Result<Vec<u8>, AllocError> {
+    fn report(&self, heap: Global, input: &[u8]) -> Result<Vec<u8>, AllocError> {
         jobs::report(heap, input)
     }
 }
 
 fn main(rt: HostRuntime) -> ExitCode {
-    let outcome = filter::<Job, _, _>(rt.alloc(), &mut rt.stdin(), &mut rt.stdout());
+    let outcome = filter(&Job, rt.alloc(), &mut rt.stdin(), &mut rt.stdout());
     status(&rt, "mixjob", outcome)
 }

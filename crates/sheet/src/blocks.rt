@@ -6,7 +6,7 @@ use rack::{Rack, Unit};
 use std::alloc::AllocError;
 
 // Adds the lines of a unit's blocks.
-pub fn add_blocks<R: Rack>(
+pub(crate) fn add_blocks<R: Rack>(
     out: &mut Vec<u8>,
     rack: &R,
     unit: Unit,

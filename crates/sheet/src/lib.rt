@@ -6,4 +6,5 @@ mod numbers;
 mod sheet;
 mod words;
 
-pub use sheet::sheet_text;
+pub use numbers::mark_line;
+pub use sheet::{front_text, sheet_text};

@@ -16,7 +16,7 @@ pub fn mark_line(heap: Global, mark: Option<Mark>) -> Result<Vec<u8>, AllocError
 }
 
 // The working steps and their time.
-pub fn work_line(heap: Global, counts: Counts) -> Result<Vec<u8>, AllocError>
+pub(crate) fn work_line(heap: Global, counts: Counts) -> Result<Vec<u8>, AllocError>
     ensures { IfOk result (λ v. v.items ≡ work_line counts) }
 {
     let steps = counts.working_steps;
@@ -26,7 +26,7 @@ pub fn work_line(heap: Global, counts: Counts) -> Result<Vec<u8>, AllocError>
 }
 
 // The clock, and the time that was waited.
-pub fn clock_line(heap: Global, counts: Counts) -> Result<Vec<u8>, AllocError>
+pub(crate) fn clock_line(heap: Global, counts: Counts) -> Result<Vec<u8>, AllocError>
     ensures { IfOk result (λ v. v.items ≡ clock_line counts) }
 {
     let clock = counts.clock;

@@ -1,7 +1,7 @@
 ghost use Rattle.std.specs.Prelude.{◌≡◌, ◌^◌, ◌<◌, IfOk};
 ghost use Rattle.machine.specs.Model.{stands};
 ghost use Rattle.sheet.specs.Record.{InRange, TellsRecord};
-ghost use Rattle.sheet.specs.Sheet.{sheet_of};
+ghost use Rattle.sheet.specs.Sheet.{front_of, sheet_of};
 
 use crate::blocks::add_blocks;
 use crate::numbers::{clock_line, mark_line, work_line};
@@ -24,6 +24,15 @@ pub fn sheet_text<R: Rack>(heap: Global, parts: &Parts<R>) -> Result<Vec<u8>, Al
 fn lines_text<R: Rack>(heap: Global, parts: &Parts<R>) -> Result<Vec<u8>, AllocError>
     ensures { IfOk result (λ v. v.items ≡ sheet_of (stands R.holds parts.now)) }
 {
+    let mut out = front_text(heap, parts)?;
+    out.extend_from_slice(&clock_line(heap, parts.counts)?)?;
+    Ok(out)
+}
+
+// All lines but that of the clock.
+pub fn front_text<R: Rack>(heap: Global, parts: &Parts<R>) -> Result<Vec<u8>, AllocError>
+    ensures { IfOk result (λ v. v.items ≡ front_of (stands R.holds parts.now)) }
+{
     let registers = &parts.processor.registers;
     let mut out = Vec::new(heap);
     add_blocks(&mut out, &parts.rack, Unit { number: 18 }, b'P')?;
@@ -35,7 +44,6 @@ fn lines_text<R: Rack>(heap: Global, parts: &Parts<R>) -> Result<Vec<u8>, AllocE
     out.extend_from_slice(indicator_line(registers.indicator))?;
     add_memory(&mut out, &parts.processor.memory)?;
     out.extend_from_slice(&work_line(heap, parts.counts)?)?;
-    out.extend_from_slice(&clock_line(heap, parts.counts)?)?;
     Ok(out)
 }
 

@@ -10,7 +10,7 @@ use std::cmp::Ordering;
 use word::{Sign, Word};
 
 // Adds the registers that are not +0.
-pub fn add_registers(out: &mut Vec<u8>, registers: &Registers) -> Result<(), AllocError>
+pub(crate) fn add_registers(out: &mut Vec<u8>, registers: &Registers) -> Result<(), AllocError>
     ensures { OnOk result (out.new.items ≡ out.old.items ++ registers_text registers.now) }
 {
     add_register(out, b"A", registers.get(Register::A))?;
@@ -24,7 +24,7 @@ pub fn add_registers(out: &mut Vec<u8>, registers: &Registers) -> Result<(), All
 }
 
 // Adds J's word, or that it is unsettled.
-pub fn add_j(out: &mut Vec<u8>, j: J) -> Result<(), AllocError>
+pub(crate) fn add_j(out: &mut Vec<u8>, j: J) -> Result<(), AllocError>
     ensures { OnOk result (out.new.items ≡ out.old.items ++ j_line j) }
 {
     if j.settled {
@@ -35,7 +35,7 @@ pub fn add_j(out: &mut Vec<u8>, j: J) -> Result<(), AllocError>
 }
 
 // Adds the words of memory that are not +0.
-pub fn add_memory(out: &mut Vec<u8>, memory: &[Word; 4000]) -> Result<(), AllocError>
+pub(crate) fn add_memory(out: &mut Vec<u8>, memory: &[Word; 4000]) -> Result<(), AllocError>
     ensures { OnOk result (out.new.items ≡ out.old.items ++ memory_text (cells memory.now)) }
 {
     for location in 0..4000u16 {
@@ -45,14 +45,14 @@ pub fn add_memory(out: &mut Vec<u8>, memory: &[Word; 4000]) -> Result<(), AllocE
 }
 
 // The overflow toggle's line.
-pub fn toggle_line(on: bool) -> &'static [u8]
+pub(crate) fn toggle_line(on: bool) -> &'static [u8]
     ensures { result.now ≡ toggle_line on }
 {
     if on { b"OV ON\n" } else { b"OV OFF\n" }
 }
 
 // The comparison indicator's line.
-pub fn indicator_line(indicator: Ordering) -> &'static [u8]
+pub(crate) fn indicator_line(indicator: Ordering) -> &'static [u8]
     ensures { result.now ≡ indicator_line indicator }
 {
     match indicator {

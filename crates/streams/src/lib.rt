@@ -14,26 +14,27 @@ mod tests;
 
 // What a program writes of all that it reads.
 pub trait Report {
-    // The bytes written, by the bytes read.
-    ghost text: { List ℕ → List ℕ };
+    // Whether bytes are a report on the bytes read.
+    ghost says: { Self → List ℕ → List ℕ → Type 0 };
 
-    fn report(heap: Global, input: &[u8]) -> Result<Vec<u8>, AllocError>
-        ensures { IfOk result (λ out. out.items ≡ text input.now) };
+    fn report(&self, heap: Global, input: &[u8]) -> Result<Vec<u8>, AllocError>
+        ensures { IfOk result (λ out. says self.now input.now out.items) };
 }
 
 // Reads the input to its end, and writes the report on it to the output.
 pub fn filter<P: Report, R: Read, W: Write>(
+    program: &P,
     heap: Global,
     input: &mut R,
     output: &mut W,
 ) -> anyhow::Result<()>
     ensures read { OnOk result (IsAtEnd (R.remaining input.new)) }
     ensures written { OnOk result (IfSome (R.remaining input.old)
-        (λ bytes. Appends (W.contents output.old) (W.contents output.new) (P.text bytes))) }
+        (λ bytes. (out : List ℕ) × P.says program.now bytes out × Appends (W.contents output.old) (W.contents output.new) out)) }
 {
     let mut bytes = Vec::new(heap);
     input.read_to_end(&mut bytes)?;
-    let report = P::report(heap, &bytes)?;
+    let report = program.report(heap, &bytes)?;
     output.write_all(&report)?;
     Ok(())
 }

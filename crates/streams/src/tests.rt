@@ -1,4 +1,4 @@
-ghost use Rattle.std.specs.Prelude.{◌++◌};
+ghost use Rattle.std.specs.Prelude.{◌≡◌, ◌++◌};
 
 use super::{Report, filter, status};
 use std::alloc::{AllocError, Global};
@@ -11,9 +11,9 @@ use std::test::Fail;
 struct Twice;
 
 impl Report for Twice {
-    ghost text = { λ bytes. bytes ++ bytes };
+    ghost says = { λ _ bytes out. out ≡ bytes ++ bytes };
 
-    fn report(heap: Global, input: &[u8]) -> Result<Vec<u8>, AllocError> {
+    fn report(&self, heap: Global, input: &[u8]) -> Result<Vec<u8>, AllocError> {
         let mut out = Vec::new(heap);
         out.extend_from_slice(input)?;
         out.extend_from_slice(input)?;
@@ -56,7 +56,7 @@ impl Write for Full {
 fn the_report_follows_what_the_output_holds(rt: HostRuntime) -> Result<(), Fail> {
     let mut input: &[u8] = b"ab\n";
     let mut output = vec![in rt.alloc(); b'>']?;
-    filter::<Twice, _, _>(rt.alloc(), &mut input, &mut output)?;
+    filter(&Twice, rt.alloc(), &mut input, &mut output)?;
     assert_eq!(rt; output.as_slice(), b">ab\nab\n".as_slice());
     assert!(rt; status(&rt, "twice", Ok(())) == ExitCode::SUCCESS);
     Ok(())
@@ -65,7 +65,7 @@ fn the_report_follows_what_the_output_holds(rt: HostRuntime) -> Result<(), Fail>
 #[test]
 fn a_read_that_fails_leaves_the_output(rt: HostRuntime) {
     let mut output = Vec::new(rt.alloc());
-    let outcome = filter::<Twice, _, _>(rt.alloc(), &mut Torn(b"ab"), &mut output);
+    let outcome = filter(&Twice, rt.alloc(), &mut Torn(b"ab"), &mut output);
     assert!(rt; outcome.is_err());
     assert!(rt; output.is_empty());
 }
@@ -73,6 +73,6 @@ fn a_read_that_fails_leaves_the_output(rt: HostRuntime) {
 #[test]
 fn a_write_that_fails_is_told(rt: HostRuntime) {
     let mut input: &[u8] = b"ab";
-    let outcome = filter::<Twice, _, _>(rt.alloc(), &mut input, &mut Full(false));
+    let outcome = filter(&Twice, rt.alloc(), &mut input, &mut Full(false));
     assert!(rt; status(&rt, "twice", outcome) == ExitCode::FAILURE);
 }

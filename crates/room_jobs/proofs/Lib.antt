@@ -1,0 +1,4 @@
+pub mod Lines
+pub mod Differing
+pub mod Reading
+pub mod Rooms

@@ -1,0 +1,3 @@
+pub mod Differences
+pub mod Arguments
+pub mod TwoRooms
