@@ -1,1 +1,3 @@
-pub mod Computed
+mod Computed
+mod Values
+mod Areas

@@ -2,7 +2,7 @@
 #![tactic(auto)]
 
 mod examples;
-mod table;
+mod outcomes;
 
 pub use examples::worked;
-pub use table::Worked;
+pub use outcomes::Worked;

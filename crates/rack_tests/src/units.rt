@@ -5,19 +5,19 @@ use stores::{Block, Contents, Stores};
 use word::{Sign, Word};
 
 // A word by its number.
-pub fn word(number: u64) -> Word {
+pub(crate) fn word(number: u64) -> Word {
     Word::wrapping(Sign::Plus, number)
 }
 
 // A block of a hundred times the same word.
-pub fn block(number: u64) -> Option<Block> {
+pub(crate) fn block(number: u64) -> Option<Block> {
     Some(Block {
         words: [word(number); 100],
     })
 }
 
 // Contents with the ring in and the time 20.
-pub fn contents(capacity: u16, blocks: &[Option<Block>], position: u16) -> Contents<'_> {
+pub(crate) fn contents(capacity: u16, blocks: &[Option<Block>], position: u16) -> Contents<'_> {
     Contents {
         capacity,
         blocks,
@@ -28,14 +28,14 @@ pub fn contents(capacity: u16, blocks: &[Option<Block>], position: u16) -> Conte
 }
 
 // A rack with one unit.
-pub fn rack_of(heap: Global, unit: Unit, contents: Contents<'_>) -> Result<Stores, Fail> {
+pub(crate) fn rack_of(heap: Global, unit: Unit, contents: Contents<'_>) -> Result<Stores, Fail> {
     let mut stores = Stores::new();
     stores.install(heap, unit, contents)?;
     Ok(stores)
 }
 
 // How a unit with the ring in stands.
-pub fn standing(capacity: u16, blocks: u16, position: u16) -> Option<Standing> {
+pub(crate) fn standing(capacity: u16, blocks: u16, position: u16) -> Option<Standing> {
     Some(Standing {
         capacity,
         blocks,
@@ -45,14 +45,19 @@ pub fn standing(capacity: u16, blocks: u16, position: u16) -> Option<Standing> {
 }
 
 // The first word that a Take gives.
-pub fn taken<R: Rack>(rack: &mut R, unit: Unit, block: u16) -> Result<Word, UnitFault> {
+pub(crate) fn taken<R: Rack>(rack: &mut R, unit: Unit, block: u16) -> Result<Word, UnitFault> {
     let mut area = [word(0); 100];
     rack.take(unit, block, &mut area)?;
     Ok(area[0])
 }
 
 // Puts a hundred times the same word.
-pub fn put<R: Rack>(rack: &mut R, unit: Unit, block: u16, number: u64) -> Result<(), UnitFault> {
+pub(crate) fn put<R: Rack>(
+    rack: &mut R,
+    unit: Unit,
+    block: u16,
+    number: u64,
+) -> Result<(), UnitFault> {
     rack.put(unit, block, &[word(number); 100])
 }
 
