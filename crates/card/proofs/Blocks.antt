@@ -1,13 +1,11 @@
 -- Words of five characters and blocks of words, there and back.
-use Rattle.std.proofs.Common.{◌≡◌, ℕ, zero, suc, ◌-◌, ◌*◌, ◌<◌, Bool, ◌&&◌, leb, List, [], ◌∷◌, ◌++◌, map, length, get_or, take, drop, replicate, is_some, Some, None, Option, subst, sym, refl, ap, ◌∙◌, arith, length-append, length-drop}
-use Rattle.std.proofs.lemmas.List.{append-nil, length-map, length-take-le, take-append-drop, take_at, drop_at, nil_from_length}
+use Rattle.std.proofs.Common.{◌≡◌, ℕ, zero, suc, ◌+◌, ◌-◌, ◌*◌, ◌<◌, Bool, ◌&&◌, leb, List, [], ◌∷◌, ◌++◌, map, length, get_or, take, drop, replicate, is_some, Some, None, Option, set, sym, refl, ap, ◌∙◌, arith, length-append, length-drop}
+use Rattle.std.proofs.lemmas.List.{get_or-set_other, append-nil, length-map, length-take-le, take-append-drop, take_at, drop_at, nil_from_length}
 use Rattle.std.proofs.lemmas.Bool.{le-leb, cond-true}
 use Rattle.std.specs.Option.{option_map}
+use Rattle.std.proofs.lemmas.Grind.{get_or-set_at}
 use Rattle.std.specs.Simd.{first_chunks}
-use Rattle.std.specs.List.{AllByRecursion, IsAmong}
-use Rattle.std.specs.Array.{AllZipBelow}
-use Rattle.std.specs.Prelude.{Result, Ok, Err, IfOk, IfErr}
-use Rattle.std.specs.Result.{result_ok}
+use Rattle.std.specs.List.{AllByRecursion}
 use Rattle.word.specs.declared.sign.Sign.TheVariants.{Plus}
 use Rattle.word.specs.declared.word.Word.{Word}
 use Rattle.word.specs.Word.{word_from, bytes_of}
@@ -41,30 +39,30 @@ length_texts [] = refl
 length_texts (w ∷ ws) = length-append (word_text w) (words_text ws) ∙ (let e = length_text w in let f = length_texts ws in omega arith)
 
 -- the words of a text are those of its fives
-words_read : (n : ℕ) (bs : List ℕ) (ws : List Word) → length ws ≡ n → ((i : ℕ) → i < n → text_word (get_or (first_chunks 5 n bs) i []) ≡ Some (get_or ws i (word_from Plus []))) → text_words n bs ≡ Some ws
+pub words_read : (n : ℕ) (bs : List ℕ) (ws : List Word) → length ws ≡ n → ((i : ℕ) → i < n → text_word (get_or (first_chunks 5 n bs) i []) ≡ Some (get_or ws i (word_from Plus []))) → text_words n bs ≡ Some ws
 unfolding text_words
 words_read zero bs ws l h = ap Some (sym (nil_from_length ws l))
 words_read (suc n) bs [] l h = absurd (omega arith)
 words_read (suc n) bs (w ∷ ws) l h = ap (λ (o : Option Word). both o (text_words n (drop 5 bs))) (h 0 (omega arith)) ∙ ap (both (Some w)) (words_read n (drop 5 bs) ws (omega arith) (λ i k. h (suc i) (omega arith)))
 
 -- and there are none where one of the fives has no word
-words_none : (n : ℕ) (bs x : List ℕ) (i : ℕ) → i < length (first_chunks 5 n bs) → x ≡ get_or (first_chunks 5 n bs) i x → text_word x ≡ None → text_words n bs ≡ None
+pub words_none : (n : ℕ) (bs : List ℕ) (i : ℕ) → i < n → text_word (get_or (first_chunks 5 n bs) i []) ≡ None → text_words n bs ≡ None
 unfolding text_words
-words_none zero bs x i l e h = absurd (omega arith)
-words_none (suc n) bs x zero l e h = ap (λ (o : Option Word). both o (text_words n (drop 5 bs))) (ap text_word (sym e) ∙ h)
-words_none (suc n) bs x (suc i) l e h = ap (both (text_word (take 5 bs))) (words_none n (drop 5 bs) x i (omega arith) e h) ∙ at (text_word (take 5 bs))
+words_none zero bs i l h = absurd (omega arith)
+words_none (suc n) bs zero l h = ap (λ (o : Option Word). both o (text_words n (drop 5 bs))) h
+words_none (suc n) bs (suc i) l h = ap (both (text_word (take 5 bs))) (words_none n (drop 5 bs) i (omega arith) h) ∙ at (text_word (take 5 bs))
   where
     at : (o : Option Word) → both o None ≡ None
     at None = refl
     at (Some w) = refl
 
--- so each of the fives may be tried in turn
-pub words_tried : {E : Type 0} {R : List ℕ → Word → Type 0} {P : E → Type 0} (bs : List ℕ) (fs : List (List ℕ)) (r : Result (List Word) E) → fs ≡ first_chunks 5 16 bs → IfOk r (λ ws. AllZipBelow R fs ws 16) → IfErr r P → ((x : List ℕ) (w : Word) → R x w → text_word x ≡ Some w) → ((e : E) → P e → (x : List ℕ) × IsAmong fs x × (text_word x ≡ None)) → result_ok r ≡ text_words 16 bs
-words_tried bs fs (Ok ws) e a b f g =
-    sym (words_read 16 bs ws a.long (λ i k. ap (λ (l : List (List ℕ)). text_word (get_or l i [])) (sym e) ∙ f (get_or fs i []) (get_or ws i (word_from Plus [])) (a.at i [] (word_from Plus []) k)))
-words_tried bs fs (Err x) e a b f g =
-    let d = g x b in
-    sym (words_none 16 bs d.0 d.1.0 (subst (λ (l : List (List ℕ)). d.1.0 < length l) e d.1.1.0) (d.1.1.1 ∙ ap (λ (l : List (List ℕ)). get_or l d.1.0 d.0) e) d.2)
+-- each of the fives before place i has its word
+abbrev pub Worded : List (List ℕ) → List Word → ℕ → Type 0
+Worded fs ws i = (j : ℕ) → j < i → text_word (get_or fs j []) ≡ Some (get_or ws j (word_from Plus []))
+
+-- one word more is written
+pub one_more : (fs : List (List ℕ)) (ws : List Word) (i : ℕ) (w : Word) → i < length ws → Some w ≡ text_word (get_or fs i []) → Worded fs ws i → Worded fs (set ws i w) (i + 1)
+one_more fs ws i w l e h j k = grind (arith, h j, get_or-set_at ws i j w (word_from Plus []), get_or-set_other ws i j w (word_from Plus []))
 
 -- a text comes back from its words
 pub words_back : (n : ℕ) (bs : List ℕ) (ws : List Word) → length bs ≡ 5 * n → text_words n bs ≡ Some ws → words_text ws ≡ bs

@@ -1,13 +1,12 @@
 ghost use Rattle.std.specs.Prelude.{◌≡◌, ◌*◌, ◌<◌, ◌≤◌, length, slice_index_or, is_some, IfSome, Some};
 ghost use Rattle.std.specs.Option.{option_map};
-ghost use Rattle.std.specs.Result.{result_ok};
 ghost use Rattle.std.specs.List.{AllByRecursion};
 ghost use Rattle.card.specs.Lines.{trimmed};
-ghost use Rattle.card.specs.Text.{text_word, text_words, word_text, words_text, padded, all_coded, sound, card_of, Plain};
+ghost use Rattle.card.specs.Text.{text_words, word_text, words_text, padded, all_coded, sound, card_of, Plain};
 
 use crate::words::{text_of, word_of};
 use std::array;
-use word::Word;
+use word::{Sign, Word};
 
 // The sixteen words of a card, blanks being added to its end; none where it is damaged:
 // it has over 80 bytes, or one without a code.
@@ -71,13 +70,12 @@ fn words_in(columns: &[u8; 80]) -> Option<[Word; 16]>
     let (fives, _) = columns.as_chunks();
     // There are sixteen fives, so this `?` never ends the function.
     let fives: &[[u8; 5]; 16] = fives.first_chunk()?;
-    fives
-        .try_map(
-            |five| -> Result<Word, ()>
-                ensures { result_ok result ≡ text_word five }
-            { word_of(five).ok_or(()) },
-        )
-        .ok()
+    // Written by place: `try_map` would first make an iterator over a copy of the fives, and another over the words.
+    let mut words = [Word::wrapping(Sign::Plus, 0); 16];
+    for (i, five) in fives.iter().enumerate() {
+        words[i] = word_of(*five)?;
+    }
+    Some(words)
 }
 
 // The text of words in a row, five characters to a word.
