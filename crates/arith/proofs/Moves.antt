@@ -67,7 +67,7 @@ module _ (size number : ℕ) (small : number < 64 ^ size) where
 -- a list moved is the bytes of its number
 
 module _ (size number : ℕ) where
-  again : (bs : List ℕ) → length bs ≡ length (unpacked size number) → are_bytes bs ≡ true → bs ≡ unpacked size (packed bs)
+  pub again : (bs : List ℕ) → length bs ≡ length (unpacked size number) → are_bytes bs ≡ true → bs ≡ unpacked size (packed bs)
   again bs e p = sym (unpacked_at size bs (e ∙ length_unpacked size number) p)
 
   pub left_again : (n : ℕ) → shifted_left n (unpacked size number) ≡ unpacked size (packed (shifted_left n (unpacked size number)))

@@ -48,7 +48,7 @@ pub run_code_found : (b : ℕ) → b < 256 → run_code b ≡ code_of b
 run_code_found = (Decides-below_and (λ k. same (run_code k) (code_of k)) (λ k. run_code k ≡ code_of k) agree (λ k. (same_true (run_code k) (code_of k), true_same (run_code k) (code_of k))) refl (λ _. refl) 256).0 agrees
 
 -- below 56 the character is the table's entry
-entry : (c : ℕ) → c < 56 → character_of c ≡ get_or characters c 0
+pub entry : (c : ℕ) → c < 56 → character_of c ≡ get_or characters c 0
 entry c h = cond-true (ltb c 56) (get_or characters c 0) 32 (lt-ltb c 56 h)
 
 -- past the table's end it is a blank

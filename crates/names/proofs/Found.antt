@@ -57,7 +57,7 @@ in_order test one = at (find test ordered) refl
     at (Some l) e = let r = find_some test ordered l e in sym (finds test one l (from_ordered l r.0) r.1)
 
 -- a name is below those after it
-above : (i j : ℕ) → i < j → j < 147 → key_of (line_at i).0 < key_of (line_at j).0
+pub above : (i j : ℕ) → i < j → j < 147 → key_of (line_at i).0 < key_of (line_at j).0
 above i j g h = rising_at 0 ordered ascends _ i j g (omega (arith, long))
 
 -- a comparison with a number does not fall as what is compared grows
@@ -70,14 +70,14 @@ comparisons_rise k = IsNonDecreasingBy-from_default (λ (l : Line). ordering_ind
     ⊎_elim (λ b. compare_rises _ _ k (omega (arith, above i j b (omega (arith, long))))) (λ b. let same : i ≡ j = omega arith in compare_rises _ _ k (omega (arith, ap (λ n. key_of (line_at n).0) same))) (cases_lt i j))
 
 -- a place with the key of a name has what the name stands for
-found_at : (w : List ℕ) → Columns w → (k : ℕ) → k < 147 → key_of (line_at k).0 ≡ key_of w → operation_of w ≡ Some (line_at k).1
+pub found_at : (w : List ℕ) → Columns w → (k : ℕ) → k < 147 → key_of (line_at k).0 ≡ key_of w → operation_of w ≡ Some (line_at k).1
 unfolding operation_of
 found_at w p k h e =
     let s = at_place k h in
     let f = key_same (line_at k).0 w (is_four (line_at k).0 (right_at (line_at k) s).1) p e in
     ap (option_map (λ (l : Line). l.1)) (finds (called w) (one_called w) (line_at k) s ((bytes_eq-Decides (line_at k).0 w).1 f))
 
-none_at : (w : List ℕ) → ((k : ℕ) → k < 147 → key_of (line_at k).0 ≡ key_of w → ⊥) → operation_of w ≡ None
+pub none_at : (w : List ℕ) → ((k : ℕ) → k < 147 → key_of (line_at k).0 ≡ key_of w → ⊥) → operation_of w ≡ None
 unfolding operation_of
 none_at w h = at (find (called w) ordered) refl
   where

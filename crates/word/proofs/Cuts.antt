@@ -22,11 +22,11 @@ module _ (f : Field) (m : ℕ) where
   unfolding front
   front_bytes = bytes_take f.right (unpacked 5 m) (bytes_unpacked 5 m)
 
-  read_length : length (read_bytes f.left f.right (unpacked 5 m)) ≡ 5
+  pub read_length : length (read_bytes f.left f.right (unpacked 5 m)) ≡ 5
   unfolding read_bytes inside front
   read_length = let e = front_length in simp (length-append, length-replicate, length-drop) (omega arith)
 
-  read_are_bytes : are_bytes (read_bytes f.left f.right (unpacked 5 m)) ≡ true
+  pub read_are_bytes : are_bytes (read_bytes f.left f.right (unpacked 5 m)) ≡ true
   unfolding read_bytes inside front
   read_are_bytes = bytes_append (replicate (5 - width f.left f.right) 0) (drop (before f.left) front) (bytes_zeros (5 - width f.left f.right)) (bytes_drop (before f.left) front front_bytes)
 
@@ -70,11 +70,11 @@ module _ (f : Field) (v m : ℕ) where
   after_length : length (middle ++ end) ≡ 5 - before f.left
   after_length = let a = middle_length in let b = end_length in simp length-append (omega arith)
 
-  stored_length : length (stored_bytes f.left f.right (unpacked 5 v) (unpacked 5 m)) ≡ 5
+  pub stored_length : length (stored_bytes f.left f.right (unpacked 5 v) (unpacked 5 m)) ≡ 5
   unfolding stored_bytes left middle end
   stored_length = let a = left_length in let b = after_length in length-append left (middle ++ end) ∙ omega arith
 
-  stored_are_bytes : are_bytes (stored_bytes f.left f.right (unpacked 5 v) (unpacked 5 m)) ≡ true
+  pub stored_are_bytes : are_bytes (stored_bytes f.left f.right (unpacked 5 v) (unpacked 5 m)) ≡ true
   unfolding stored_bytes left middle end right_end
   stored_are_bytes =
       bytes_append left (middle ++ end) (bytes_take (before f.left) (unpacked 5 m) (bytes_unpacked 5 m))
