@@ -1,12 +1,12 @@
 ghost use Rattle.std.specs.Prelude.{◌≡◌, ◌+◌, ◌<◌, ◌≤◌, false, vec_len, OnOk};
 ghost use Rattle.mixal.specs.Causes.{out_of_range};
-ghost use Rattle.mixal.specs.Deck.{defined, named_in, awaited_after, made_with, made_on, here_after, loc_word, w_value_on, after_operation, zero};
+ghost use Rattle.mixal.specs.Deck.{defined, named_in, awaited_after, made_with, made_on, here_after, loc_word, w_value_on, after_operation, future_for, zero};
 ghost use Rattle.mixal.specs.Model.{model_of};
+ghost use Rattle.scan.specs.Columns.{address_of};
 ghost use Rattle.std.specs.Option.{unwrap_or};
 ghost use Rattle.symbols.specs.Symbols.{entries};
 
 use crate::assembly::Assembly;
-use crate::causes::{future_for, future_name};
 use crate::draft::{Draft, Made};
 use crate::progress::Progress;
 use crate::sound_card::{OperationCard, SoundCard};
@@ -91,15 +91,16 @@ impl Assembly {
         })
     }
 
-    // What a card assembles, if anything.
-    fn made(&self, card: &OperationCard<'_>) -> Option<Made>
+    // What a card assembles, if anything; `future` is the future symbol that it names.
+    fn made(&self, card: &OperationCard<'_>, future: Option<Name>) -> Option<Made>
+        requires { future ≡ future_for (entries self.now.progress.symbols) (address_of card.now.sound.text.now) card.now.operation }
         ensures { result ≡ made_on (model_of self.now) card.now.sound.text.now card.now.operation }
     {
         match card.operation {
             Operation::Machine(i) => {
                 let text = card.sound.address();
                 let word = or_zero(instruction(self.progress.scope(), i, text));
-                self.made_with(word, future_name(&self.progress.symbols, text))
+                self.made_with(word, future)
             }
             Operation::Con => self.made_with(self.value(&card.sound), None),
             Operation::Alf => self.made_with(or_zero(word_of(alf_text(card.sound.text))), None),
@@ -130,16 +131,20 @@ impl Assembly {
         }
     }
 
-    // What a good card does.
-    pub(crate) fn operate(&mut self, card: &OperationCard<'_>) -> Result<(), AllocError>
+    // What a good card does; `future` is the future symbol that it names.
+    pub(crate) fn operate(
+        &mut self,
+        card: &OperationCard<'_>,
+        future: Option<Name>,
+    ) -> Result<(), AllocError>
         requires room { vec_len self.old.progress.drafts < 600 }
+        requires future { future ≡ future_for (entries self.old.progress.symbols) (address_of card.now.sound.text.now) card.now.operation }
         requires good { out_of_range (entries self.old.progress.symbols) self.old.progress.here card.now.sound.text.now card.now.operation ≡ false }
         ensures { OnOk result (model_of self.new ≡ after_operation (model_of self.old) card.now.sound.text.now card.now.operation) }
     {
-        let made = self.made(card);
+        let made = self.made(card, future);
         let word = self.loc_word(card);
         let here = self.here_after(card);
-        let future = future_for(&self.progress.symbols, card.sound.address(), card.operation);
         self.progress.drafts.push(Draft {
             card: card.sound.columns,
             made,

@@ -85,14 +85,16 @@ fn is_too_many(symbols: &Symbols, loc: Option<Name>, future: Option<Name>) -> bo
     symbols.len() > 500 - new_names(symbols, loc) - named
 }
 
-// The first of the causes from 6 on that holds of a card whose ADDRESS is readable; `missing` says
-// that it is the last and not END.
+// The first of the causes from 6 on that holds of a card whose ADDRESS is readable; `future` is the
+// future symbol that it names, and `missing` says that it is the last and not END.
 pub(crate) fn check_late(
     scope: Scope<'_>,
     card: &OperationCard<'_>,
+    future: Option<Name>,
     missing: bool,
 ) -> Result<(), Cause>
-    requires { unreadable (address_of card.now.sound.text.now) card.now.operation ≡ false }
+    requires readable { unreadable (address_of card.now.sound.text.now) card.now.operation ≡ false }
+    requires future { future ≡ future_for (entries scope.symbols.now) (address_of card.now.sound.text.now) card.now.operation }
     ensures good { OnOk result (late_cause missing (entries scope.entry.symbols.now) scope.entry.here card.now.sound.text.now card.now.operation ≡ None) }
     ensures bad { IfErr result (λ x. late_cause missing (entries scope.entry.symbols.now) scope.entry.here card.now.sound.text.now card.now.operation ≡ Some x) }
 {
@@ -106,11 +108,7 @@ pub(crate) fn check_late(
     if missing {
         return Err(Cause::NoEnd);
     }
-    if is_too_many(
-        scope.symbols,
-        card.sound.loc(),
-        future_for(scope.symbols, text, card.operation),
-    ) {
+    if is_too_many(scope.symbols, card.sound.loc(), future) {
         return Err(Cause::TooManySymbols);
     }
     Ok(())
@@ -127,7 +125,7 @@ pub(crate) fn future_for(symbols: &Symbols, text: &[u8], operation: Operation) -
 }
 
 // The future symbol of an instruction's ADDRESS, if it has one.
-pub(crate) fn future_name(symbols: &Symbols, text: &[u8]) -> Option<Name>
+fn future_name(symbols: &Symbols, text: &[u8]) -> Option<Name>
     ensures { result ≡ future_name (entries symbols.now) text.now }
 {
     let codes = future(symbols, a_part(text))?;

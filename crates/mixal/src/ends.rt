@@ -194,7 +194,8 @@ impl Assembly {
             sound: *card,
             operation: Operation::End,
         };
-        if let Err(cause) = check_late(progress.scope(), &end, false) {
+        // END takes no future symbol.
+        if let Err(cause) = check_late(progress.scope(), &end, None, false) {
             return Err(Refusal::Rejected(Rejection {
                 cause,
                 card: cards + 1,

@@ -8,7 +8,7 @@ ghost use Rattle.scan.specs.Columns.{is_remark};
 
 use crate::assembly::Assembly;
 use crate::cause::{Cause, Refusal, Rejection};
-use crate::causes::{bad_columns, check_late, is_known, is_unreadable};
+use crate::causes::{bad_columns, check_late, future_for, is_known, is_unreadable};
 use crate::draft::Draft;
 use crate::sound_card::{OperationCard, SoundCard};
 use names::{Operation, operation};
@@ -83,10 +83,12 @@ impl Assembly {
         requires open { is_end_of (Some card.now.operation) ≡ false }
         ensures { Takes last (model_of self.old) card.now.sound.text.now (model_of self.new) result }
     {
-        if let Err(cause) = check_late(self.progress.scope(), card, last) {
+        // Looked up once, for what is checked and for what is made.
+        let future = future_for(&self.progress.symbols, card.sound.address(), card.operation);
+        if let Err(cause) = check_late(self.progress.scope(), card, future, last) {
             return Err(self.rejected(cause));
         }
-        self.operate(card)?;
+        self.operate(card, future)?;
         Ok(())
     }
 
