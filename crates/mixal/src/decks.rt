@@ -1,7 +1,7 @@
 ghost use Rattle.std.specs.Prelude.{◌≡◌, true};
 ghost use Rattle.mixal.specs.Image.{image_of, last_at};
 ghost use Rattle.mixal.specs.Model.{assembled};
-ghost use Rattle.table.specs.Keys.{location_before};
+ghost use Rattle.table.specs.Keys.{location_before, name_before};
 ghost use Rattle.table.specs.Pairs.{sorted};
 
 use crate::deck::Deck;
@@ -34,7 +34,8 @@ impl Deck {
 
     // The symbols with their meanings, in the order of their names.
     pub fn symbols(&self) -> &[(Name, Meaning)]
-        ensures { result.now ≡ (assembled self.now).symbols }
+        ensures all { result.now ≡ (assembled self.now).symbols }
+        ensures order { sorted name_before result.now ≡ true }
     {
         self.symbols.entries()
     }

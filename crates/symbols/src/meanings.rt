@@ -1,7 +1,7 @@
-ghost use Rattle.std.specs.Prelude.{◌≡◌, ◌<◌, ◌^◌, [], length, OnOk, OnErr};
+ghost use Rattle.std.specs.Prelude.{◌≡◌, ◌<◌, ◌^◌, true, [], length, OnOk, OnErr};
 ghost use Rattle.symbols.specs.Symbols.{entries, meaning_of, word_in, known_as};
 ghost use Rattle.table.specs.Keys.{name_before, name_same};
-ghost use Rattle.table.specs.Pairs.{Inserts};
+ghost use Rattle.table.specs.Pairs.{sorted, Inserts};
 
 use crate::meaning::Meaning;
 use crate::symbols::Symbols;
@@ -41,7 +41,8 @@ impl Symbols {
 
     // The names with their meanings, in the order of the names.
     pub fn entries(&self) -> &[(Name, Meaning)]
-        ensures { result.now ≡ entries self.now }
+        ensures whole { result.now ≡ entries self.now }
+        ensures order { sorted name_before result.now ≡ true }
     {
         self.table.pairs()
     }

@@ -1,3 +1,7 @@
+ghost use Rattle.std.specs.Prelude.{◌≡◌, true};
+ghost use Rattle.table.specs.Keys.{name_before};
+ghost use Rattle.table.specs.Pairs.{sorted};
+
 use crate::meaning::Meaning;
 use table::{Name, Table};
 
@@ -5,4 +9,5 @@ use table::{Name, Table};
 #[derive(Drop)]
 pub struct Symbols {
     pub(crate) table: Table<Name, Meaning>,
+    ghost ordered: { sorted name_before table ≡ true },
 }
