@@ -1,4 +1,4 @@
-// Tests of card text, operation names, values and lines. The expected values are worked by hand from the rules.
+// Tests of card text, operation names, tables, values and lines. The expected values are worked by hand from the rules.
 #![tactic(auto)]
 
 #[cfg(test)]
@@ -9,5 +9,7 @@ mod columns;
 mod listings;
 #[cfg(test)]
 mod operations;
+#[cfg(test)]
+mod tables;
 #[cfg(test)]
 mod worked;

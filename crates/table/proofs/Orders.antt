@@ -1,5 +1,5 @@
--- The order of each kind of key, and what it is of numbers and of codes.
-use Rattle.std.proofs.Common.{◌≡◌, ℕ, ◌<◌, List, refl, sym, ap, ◌∙◌, arith}
+-- The order of each kind of key, in the words of its tests, and what it is of numbers and of codes.
+use Rattle.std.proofs.Common.{◌≡◌, ℕ, ◌<◌, Bool, true, List, refl, sym, ap, ◌∙◌, arith}
 use Rattle.std.specs.Bool.{Decides}
 use Rattle.std.specs.Cmp.{unsigned_ties}
 use Rattle.std.specs.Cmp.Lexicographic.{slice_cmp, lists_ties}
@@ -11,9 +11,29 @@ use Rattle.std.proofs.lemmas.Bool.Decides.{nat_tests}
 use Rattle.std.proofs.lemmas.Cmp.{on_total, nat_cmp_total, nat_list_cmp_total, same_from_slice_cmp}
 use Rattle.std.proofs.lemmas.Slice.Eq.{bytes_eq-Decides}
 use Rattle.table.specs.Keys.{location_cmp, location_before, location_same, lex_before, name_cmp, name_before, name_same}
-use Rattle.table.specs.Order.{Order, Tells}
+use Rattle.table.specs.Order.{Order, before_by, JustOne, Tells}
 use Rattle.table.specs.declared.location.Location.{Location}
 use Rattle.table.specs.declared.name.Name.{Name}
+
+-- of two keys the first comes before the second, or they are the same, or the second comes before the first
+module _ {K : Type 0} {cmp : K → K → Ordering} {same : K → K → Bool} (o : Order cmp same) where
+  -- just one of the three holds
+  pub key_one : (a b : K) → JustOne (before_by cmp a b) (same a b) (before_by cmp b a)
+  key_one a b = grind (arith, o.ties a b, o.total.antisymm b a)
+
+  -- before carries on from key to key
+  pub key_on : (a b c : K) → before_by cmp a b ≡ true → before_by cmp b c ≡ true → before_by cmp a c ≡ true
+  key_on a b c h k = grind (arith, o.total.trans a b c)
+
+  -- and so does same
+  pub key_stays : (a b c : K) → same a b ≡ true → same b c ≡ true → same a c ≡ true
+  key_stays a b c h k = grind (arith, o.ties a b, o.ties b c, o.ties a c, o.total.congr a b c)
+
+  -- an answer names the one that holds
+  pub key_tells : (a b : K) (r : Ordering) → r ≡ cmp a b → Tells r (before_by cmp a b) (same a b) (before_by cmp b a)
+  key_tells a b Less h = grind arith
+  key_tells a b Equal h = grind (arith, o.ties a b)
+  key_tells a b Greater h = grind (arith, o.total.antisymm b a)
 
 pub location_order : Order location_cmp location_same
 location_order = record { total = on_total (λ a. a.0) nat_cmp_total; ties = λ a b. grind (arith, nat_tests) }

@@ -8,6 +8,6 @@ use Rattle.table.proofs.table.Table.search.Goals as goal
 pub returns : goal.returns
 returns g c =
     let facts = c.binary_search_by.ensures in
-    let by_key = facts.position (λ pair. g.K.Ord.cmp pair.0 c.args.key.now) (always_returns_same _ _ _ (λ a r f called. search rules)) in
-    let order : Order g.K.Ord.cmp g.K.PartialEq.eq = record { total = g.met.K.Ord.total; ties = g.met.K.Ord.matches_eq } in
+    let by_key = facts.position (λ pair. g.K.Key.cmp pair.0 c.args.key.now) (always_returns_same _ _ _ (λ a r f called. search rules)) in
+    let order : Order g.K.Key.cmp g.K.Key.same = record { total = g.met.K.Key.total; ties = g.met.K.Key.ties } in
     rw (← c.self.view_is, ← c.deref.ensures.value) (searched order _ (rw c.deref.ensures.value c.self.invariant) c.args.key.now _ facts.bound by_key)
