@@ -1,3 +1,3 @@
-mod Computed
-mod Values
-mod Areas
+pub mod Computed
+pub mod Values
+pub mod Areas
