@@ -67,8 +67,7 @@ pub fn undefined(symbols: &Symbols, text: &[u8]) -> bool
 // Whether a term of an expression is a symbol that is not defined.
 #[tactic(auto, using(crate::proofs::Steps::unknown_rest))]
 fn names_unknown(symbols: &Symbols, text: &[u8]) -> bool
-    requires { is_some (terms_of text.now) ≡ true }
-    ensures { result ≡ any_unknown_in (entries symbols.now) (terms_of text.now) }
+    ensures { is_some (terms_of text.now) ≡ true → result ≡ undefined_in (entries symbols.now) text.now }
 {
     let Some((term, rest)) = first_term(text) else {
         return false;
@@ -79,8 +78,7 @@ fn names_unknown(symbols: &Symbols, text: &[u8]) -> bool
 // Whether one of a text's further terms is a symbol that is not defined.
 #[tactic(auto, using(crate::proofs::Steps::unknown_rest))]
 fn any_unknown(symbols: &Symbols, text: &[u8]) -> bool
-    requires { is_some (more_of text.now) ≡ true }
-    ensures { result ≡ any_unknown_in (entries symbols.now) (more_of text.now) }
+    ensures { is_some (more_of text.now) ≡ true → result ≡ any_unknown_in (entries symbols.now) (more_of text.now) }
 {
     let mut rest = text;
     while let Some((term, next)) = next_term(rest) {
