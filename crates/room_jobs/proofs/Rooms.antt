@@ -1,7 +1,9 @@
 -- Two rooms, and what is printed of them.
-use Rattle.std.proofs.Common.{◌≡◌, ◌≢◌, ℕ, zero, suc, List, [], ◌++◌, replicate, None, codes, refl, sym, ap, ◌∙◌, subst}
-use Rattle.console.specs.Calls.{loaded_with}
+use Rattle.std.proofs.Common.{◌≡◌, ◌≢◌, ℕ, zero, suc, List, [], ◌++◌, drop, replicate, None, Result, Ok, Err, codes, refl, sym, ap, ◌∙◌, subst}
+use Rattle.card.specs.Lines.{cards_of}
+use Rattle.console.specs.Calls.{Assembles, loaded_with}
 use Rattle.console.specs.Rooms.{SheetsAgree}
+use Rattle.job_rack.specs.Units.{job_units}
 use Rattle.jobs.specs.Jobs.{outcome_in, runs_of, time_of}
 use Rattle.jobs.specs.Runs.{run_at, runs_at}
 use Rattle.jobs.proofs.Known.{ran_at}
@@ -11,11 +13,14 @@ use Rattle.machine.specs.declared.call.Call.TheVariants.{Run}
 use Rattle.machine.specs.declared.phase.Phase.{Phase}
 use Rattle.machine.specs.declared.phase.Phase.TheVariants.{Running, Halted, Faulted}
 use Rattle.mixal.specs.Ends.{Assembled}
+use Rattle.mixal.specs.Model.{assembled}
+use Rattle.mixal.specs.declared.cause.Rejection.{Rejection}
+use Rattle.mixal.specs.declared.deck.Deck.{Deck}
 use Rattle.rack.specs.Units.{EqualUnits, Holdings}
 use Rattle.rack.specs.declared.request.Request.{Request}
 use Rattle.sheet.specs.Sheet.{front_of, line, mark_line, sheet_of}
 use Rattle.room_jobs.specs.Differences.{differences}
-use Rattle.room_jobs.specs.TwoRooms.{Beside, OutcomeOf, RunsBeside, compared_in, rooms_text, same_line, ten_runs, told_differences, verdict_in}
+use Rattle.room_jobs.specs.TwoRooms.{Beside, OutcomeOf, RoomsPrintedOf, RunsBeside, compared_in, rooms_text, same_line, ten_runs, told_differences, verdict_in}
 use Rattle.room_jobs.specs.declared.outcomes.Outcome.{Outcome}
 use Rattle.room_jobs.proofs.Differing.{same_texts}
 
@@ -69,3 +74,12 @@ pub stopped_verdict : (s : State) (p : Phase) → p ≢ Halted → verdict_in s 
 stopped_verdict s Running h = refl
 stopped_verdict s Halted h = absurd (h refl)
 stopped_verdict s (Faulted f) h = refl
+
+-- what came of an assembled deck, with the cards after it, is what is to be printed of the input
+module _ {R : Type 0} (holds : R → Holdings) (tells : R → Request → ℕ) where
+  pub printed_from : (x : Result Assembled Rejection) (d : Deck) (input cards out : List ℕ) → Assembles x (Ok d) → cards_of cards ≡ drop d.cards (cards_of input)
+      → RunsBeside holds tells (loaded_with (assembled d) (job_units (cards_of cards))) out → RoomsPrintedOf holds tells input out x
+  printed_from (Ok a) d input cards out e f b =
+      subst (λ (k : Assembled). RunsBeside holds tells (loaded_with k (job_units (drop k.cards (cards_of input)))) out) e
+      (subst (λ (k : List (List ℕ)). RunsBeside holds tells (loaded_with (assembled d) (job_units k)) out) f b)
+  printed_from (Err p) d input cards out e f b = absurd e
